@@ -1,0 +1,32 @@
+-- `frames::judge_slave` judges by the size that the code expects, and no such size is above 16. Assumes nothing.
+use mathlib.Core.Path.{sym, _∙_}
+use Rattle.frames.specs.Judge.{judgedSlave}
+use Rattle.frames.proofs.Sizes.{longest}
+use borrow.Author.Needs.{needs}
+use Rattle.frames.proofs.judge_slave.Statement.{statement}
+use Rattle.frames.proofs.judge_slave.Tie as tie
+
+reply-size-requires : tie.Need-reply-size-requires
+reply-size-requires c κs = search needs
+
+enum-known-n : tie.Need-enum-known-n
+enum-known-n c = search needs
+
+judge-requires : tie.Need-judge-requires
+judge-requires c κs = longest _ _ (sym (c .before .before .before .reply-size .ensures) ∙ c .before .n .given .1)
+
+enum-told : tie.Need-enum-told
+enum-told c = search needs
+
+returns : tie.Need-returns
+unfolding judgedSlave
+returns c = rw (sym (c .before .before .before .before .reply-size .ensures) ∙ c .before .before .n .given .1) (c .judge .ensures)
+
+returns-2 : tie.Need-returns-2
+unfolding judgedSlave
+returns-2 c = rw (sym (c .before .before .reply-size .ensures) ∙ c .enum-told .given .1)
+
+pub judge-slave-spec : {M : Type 1} → statement M
+judge-slave-spec =
+    tie.close
+    (tie.spec reply-size-requires enum-known-n judge-requires enum-told returns returns-2)

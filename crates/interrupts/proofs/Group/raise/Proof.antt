@@ -1,0 +1,15 @@
+-- `Group::raise` meets its contract: the definition settles the same group as the code does. Assumes nothing.
+use borrow.Author.Needs.{needs}
+use Rattle.interrupts.specs.Group.{raised}
+use Rattle.interrupts.proofs.Group.raise.Statement.{statement}
+use Rattle.interrupts.proofs.Group.raise.Tie as tie
+
+settle-requires : tie.Need-settle-requires
+settle-requires c κs = search needs
+
+returns : tie.Need-returns
+unfolding raised
+returns c = c .settle .ensures
+
+pub raise-spec : {M : Type 1} → statement M
+raise-spec = tie.close (tie.spec settle-requires returns)
