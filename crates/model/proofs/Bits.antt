@@ -1,0 +1,68 @@
+-- Laws of word 1: the flags of a word put together of flags are those flags, and its other bits are zero. The word is the number whose
+-- binary digits are the flags, lowest first, so one law on digits serves every flag. Assumes nothing.
+use Prim.Native.Nat.{ℕ, zero, suc, _+_, _*_, _/_, _%_, _^_}
+use mathlib.Core.Path.{_≡_, refl, _∙_}
+use mathlib.Core.Bool.{Bool, true, false}
+use mathlib.Core.List.{List, [], _∷_}
+use native.Mathlib.Nat.{zero-div}
+use native.Mathlib.Numerals.{one-add}
+use native.Mathlib.Omega.{arith}
+use borrow.Author.Tests.{eq-eqb, ne-eqb}
+use lib.ListN.{length, getD}
+use lib.Pow.{shr-shr}
+use Rattle.model.specs.declared.Flags.{Flags}
+use Rattle.model.specs.Layout.{bitAt, flagsOf, worth, wordOf, zeroBits}
+
+abbrev digit : Bool → ℕ
+digit true = 1
+digit false = 0
+
+abbrev number : List Bool → ℕ
+number [] = 0
+number (b ∷ bs) = digit b + 2 * number bs
+
+digit-at : (b : Bool) (n : ℕ) → bitAt (digit b + 2 * n) 1 ≡ b
+unfolding bitAt
+digit-at true n = eq-eqb ((1 + 2 * n) / 1 % 2) 1 (omega arith)
+digit-at false n = ne-eqb ((0 + 2 * n) / 1 % 2) 1 (omega arith)
+
+digits-off : (b : Bool) (n i : ℕ) → (digit b + 2 * n) / 2 ^ suc i ≡ n / 2 ^ i
+digits-off b n i = rw (← (one-add i), ← (shr-shr (digit b + 2 * n) 1 i), off b)
+  where
+    off : (b : Bool) → (digit b + 2 * n) / 2 ≡ n
+    off true = omega arith
+    off false = omega arith
+
+-- a digit of the number
+number-at : (bs : List Bool) (i : ℕ) → bitAt (number bs) (2 ^ i) ≡ getD bs i false
+unfolding bitAt
+number-at [] i = rw (zero-div (2 ^ i))
+number-at (b ∷ bs) zero = digit-at b (number bs)
+number-at (b ∷ bs) (suc i) = rw (digits-off b (number bs) i) (number-at bs i)
+
+-- it has no more digits
+number-end : (bs : List Bool) → number bs / 2 ^ length bs ≡ 0
+number-end [] = refl
+number-end (b ∷ bs) = digits-off b (number bs) (length bs) ∙ number-end bs
+
+abbrev digits : Flags → List Bool
+digits f =
+    f .vp ∷ f .ever ∷ f .src ∷ f .sink ∷ f .faults .sto ∷ f .faults .terr ∷ f .faults .crc ∷ f .faults .sqe ∷ f .faults .alo ∷ []
+
+worth-digit : (b : Bool) (k : ℕ) → worth b k ≡ digit b * k
+worth-digit true k = omega arith
+worth-digit false k = omega arith
+
+word-number : (f : Flags) → wordOf f ≡ number (digits f)
+unfolding wordOf
+word-number f = simp worth-digit (omega arith)
+
+pub flags-of-word : (f : Flags) → flagsOf (wordOf f) ≡ f
+unfolding flagsOf
+flags-of-word f =
+    let at = number-at (digits f) in
+    rw (word-number f, at 0, at 1, at 2, at 3, at 4, at 5, at 6, at 7, at 8)
+
+pub zero-bits : (f : Flags) → zeroBits (wordOf f) ≡ true
+unfolding zeroBits
+zero-bits f = rw (word-number f, number-end (digits f))

@@ -1,0 +1,136 @@
+-- The tests on areas and port words as facts: the four lengths, and the five parts of well formed words. Filling, marking and opening
+-- leave well formed words, since flags put together are read back; and no port has more than sixteen words. Assumes nothing.
+use Prim.Native.Nat.{ℕ, _*_, _≤_, _<_}
+use mathlib.Core.Path.{_≡_, refl, sym, _∙_}
+use mathlib.Core.Bool.{Bool, true, false, not, _&&_, false≢true}
+use native.Mathlib.Omega.{arith}
+use borrow.Author.Tests.{leb-true, eqb-true, le-leb, eq-eqb}
+use lib.ListN.{length}
+use Rattle.frames.specs.declared.Expected.{Expected}
+use Rattle.frames.specs.declared.Expected.the-variants.{Words as Expects, NoReply}
+use Rattle.frames.specs.Size.{expectedOf}
+use Rattle.frames.proofs.Sizes.{longest}
+use Rattle.model.specs.declared.Words.{Words}
+use Rattle.model.specs.declared.Flags.{Flags}
+use Rattle.model.specs.declared.Faults.{Faults}
+use Rattle.model.specs.Layout.{Areas, stride, areasFit, bitAt, flagsOf, wordOf, zeroBits}
+use Rattle.model.specs.Ports.{codeOf, addressOf, wordsIn, sizeOf, oneSide, wellFormed, noFaults, turned, filledWords, faulty, markedWords, openWords}
+use Rattle.model.proofs.Bits.{flags-of-word, zero-bits}
+
+pub and-left : (a b : Bool) → (a && b) ≡ true → a ≡ true
+and-left true b e = refl
+and-left false b e = absurd (false≢true e)
+
+pub and-right : (a b : Bool) → (a && b) ≡ true → b ≡ true
+and-right true b e = e
+and-right false b e = absurd (false≢true e)
+
+-- ---- the areas have their lengths
+
+pub record Lengths (m : Areas) : Type 0 where
+  pub index : length (m .index) ≡ 4096
+  pub ports : length (m .ports) ≡ stride * 256
+  pub page0 : length (m .page0) ≡ 4096
+  pub page1 : length (m .page1) ≡ 4096
+
+pub lengths : (m : Areas) → areasFit m ≡ true → Lengths m
+unfolding areasFit
+lengths m e =
+    record {
+      index = eqb-true (length (m .index)) 4096 (search (and-left, and-right));
+      ports = eqb-true (length (m .ports)) (stride * 256) (search (and-left, and-right));
+      page0 = eqb-true (length (m .page0)) 4096 (search (and-left, and-right));
+      page1 = eqb-true (length (m .page1)) 4096 (search (and-left, and-right));
+    }
+
+-- ---- words well formed for address a
+
+pub record Formed (a : ℕ) (w : Words) : Type 0 where
+  pub code : codeOf (w .master) ≤ 4
+  pub address : addressOf (w .master) ≡ a
+  pub side : oneSide (flagsOf (w .flags)) ≡ true
+  pub zeros : zeroBits (w .flags) ≡ true
+  pub interrupt : w .interrupt ≤ 7
+
+pub formed : (a : ℕ) (w : Words) → wellFormed a w ≡ true → Formed a w
+unfolding wellFormed
+formed a w e =
+    record {
+      code = leb-true (codeOf (w .master)) 4 (search (and-left, and-right));
+      address = eqb-true (addressOf (w .master)) a (search (and-left, and-right));
+      side = search (and-left, and-right);
+      zeros = search (and-left, and-right);
+      interrupt = leb-true (w .interrupt) 7 (search (and-left, and-right));
+    }
+
+form : (a : ℕ) (w : Words) → Formed a w → wellFormed a w ≡ true
+unfolding wellFormed
+form a w f =
+    rw (
+      le-leb (codeOf (w .master)) 4 (f .code),
+      eq-eqb (addressOf (w .master)) a (f .address),
+      f .side,
+      f .zeros,
+      le-leb (w .interrupt) 7 (f .interrupt),
+    )
+
+-- words are well formed for one address
+pub one-address : (a b : ℕ) (w : Words) → wellFormed a w ≡ true → wellFormed b w ≡ true → a ≡ b
+one-address a b w e d = sym (formed a w e .address) ∙ formed b w d .address
+
+-- other flags with the same side, and another count of fills
+flagged : (a : ℕ) (w : Words) (g : Flags) (n : ℕ) → oneSide g ≡ oneSide (flagsOf (w .flags)) → wellFormed a w ≡ true
+    → wellFormed a (record { master = w .master; flags = wordOf g; interrupt = w .interrupt; fills = n }) ≡ true
+flagged a w g n same e =
+    let f = formed a w e in
+    form a (record { master = w .master; flags = wordOf g; interrupt = w .interrupt; fills = n })
+    (record {
+      code = f .code;
+      address = f .address;
+      side = rw (flags-of-word g) (same ∙ f .side);
+      zeros = zero-bits g;
+      interrupt = f .interrupt;
+    })
+
+pub filled-formed : (a : ℕ) (w : Words) → wellFormed a w ≡ true → wellFormed a (filledWords w) ≡ true
+unfolding filledWords
+filled-formed a w e = flagged a w (turned (flagsOf (w .flags))) (filledWords w .fills) refl e
+
+pub marked-formed : (a : ℕ) (w : Words) (x : Faults) → wellFormed a w ≡ true → wellFormed a (markedWords w x) ≡ true
+unfolding markedWords
+marked-formed a w x e = flagged a w (faulty (flagsOf (w .flags)) x) (w .fills) refl e
+
+-- the flags of a port just opened
+abbrev pub openFlags : Bool → Flags
+openFlags sink = record { vp = false; ever = false; src = not sink; sink = sink; faults = noFaults }
+
+pub open-formed : (a code : ℕ) (sink : Bool) (i : ℕ) → a < 4096 → code ≤ 4 → i ≤ 7 → wellFormed a (openWords a code sink i) ≡ true
+unfolding openWords
+open-formed a code sink i ha hc hi =
+    form a (openWords a code sink i)
+    (record {
+      code = omega arith;
+      address = omega arith;
+      side = rw (flags-of-word (openFlags sink)) (one sink);
+      zeros = zero-bits (openFlags sink);
+      interrupt = hi;
+    })
+  where
+    one : (b : Bool) → oneSide (openFlags b) ≡ true
+    one true = refl
+    one false = refl
+
+-- well formed words have a word 1 that is not 0
+pub formed-used : (a : ℕ) (w : Words) → wellFormed a w ≡ true → w .flags ≡ 0 → ⊥
+unfolding flagsOf bitAt
+formed-used a w e z = false≢true (rw z at (formed a w e .side))
+
+-- ---- sizes: none is above sixteen words
+
+pub size-small : (code : ℕ) → sizeOf code ≤ 16
+unfolding sizeOf
+size-small code = go (expectedOf code) refl
+  where
+    go : (x : Expected) → expectedOf code ≡ x → wordsIn x ≤ 16
+    go (Expects n) e = longest code n e
+    go NoReply e = omega arith

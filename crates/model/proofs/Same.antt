@@ -1,0 +1,177 @@
+-- Two worlds whose addresses show the same, with the same exchange, times and device, stay so under any call that both lines hear alike.
+-- Assumes nothing.
+use Prim.Native.Nat.{ℕ, zero, suc}
+use mathlib.Core.Path.{_≡_, refl, sym, _∙_, ap, ap₂, subst}
+use mathlib.Core.Bool.{Bool, true, false, cond}
+use mathlib.Core.Option.{Option, none, some}
+use lib.ListN.{length}
+use Rattle.frames.specs.declared.Hearing.{Hearing}
+use Rattle.model.specs.declared.Exchange.{Exchange}
+use Rattle.model.specs.declared.Times.{Times}
+use Rattle.model.specs.declared.Device.{Device}
+use Rattle.model.specs.declared.Controller.{Controller}
+use Rattle.model.specs.declared.Heard.{Heard}
+use Rattle.model.specs.declared.Heard.the-variants.{Nothing, Unsound, Master, Reply, Stray}
+use Rattle.model.specs.Layout.{Areas, entry}
+use Rattle.model.specs.Ports.{addressOf, View, view, Effect, fill, closed, apply}
+use Rattle.model.specs.Shape.{Shape, Valid, viewAfter}
+use Rattle.model.specs.Lines.{trusted}
+use Rattle.model.specs.declared.Lines.{Lines}
+use Rattle.model.specs.Host.{device, Setting, address, status, replyTime, slm, ls, clearEC, reset, group0, group1, tell}
+use Rattle.model.specs.Calls.{Call, hear, quiet, openPort, closePort, writePort, readPort, setting, refusal, effect, step}
+use Rattle.model.specs.Past.{Typed}
+use Rattle.model.specs.Damage.{HeardAlike}
+use Rattle.model.proofs.Accepted.{valid-open, valid-close, valid-write}
+use Rattle.model.proofs.Taken.{valid-heard}
+use Rattle.model.proofs.Holds.{later-valid}
+use Rattle.model.specs.Event.{hearController, hearEffect, world, World, portFor, answerTo, exchangeFor, exchangeAfter, timesAfter, effectOf, heard, heardBy, asHeard}
+use Rattle.model.specs.Quiet.{times, expired, due, effectLater, exchangeLater, timesLater, tickEffect, tickController, tick, ticks}
+use Rattle.model.proofs.Views.{view-at, none-entry}
+use Rattle.model.proofs.Shape.{shape-apply, view-apply}
+
+-- two areas whose addresses show the same
+pub record Alike (m n : Areas) : Type 0 where
+  pub shape : Shape m
+  pub shape′ : Shape n
+  pub views : (a : ℕ) → view m a ≡ view n a
+
+module _ (m n : Areas) (k : Alike m n) where
+  pub same-port : (w : ℕ) → portFor m w ≡ portFor n w
+  unfolding portFor
+  same-port w = rw (k .views (addressOf w))
+
+  pub same-answer : (d : Device) (w : ℕ) → answerTo d m w ≡ answerTo d n w
+  unfolding answerTo
+  same-answer d w = rw (same-port w)
+
+  pub same-exchange : (d : Device) (x : Exchange) (h : Heard) → exchangeAfter d m x h ≡ exchangeAfter d n x h
+  unfolding exchangeFor
+  same-exchange d x Nothing = refl
+  same-exchange d x Unsound = refl
+  same-exchange d x (Master w) = rw (same-answer d w)
+  same-exchange d x (Reply w j) = refl
+  same-exchange d x Stray = refl
+
+  pub same-effect : (h : Heard) (y : Hearing) → effectOf m h y ≡ effectOf n h y
+  same-effect Nothing y = refl
+  same-effect Unsound y = refl
+  same-effect (Master w) y = refl
+  same-effect (Reply w j) y = rw (same-port w)
+  same-effect Stray y = refl
+
+  pub same-missed : (o : Option ℕ) → effectLater m o ≡ effectLater n o
+  same-missed none = refl
+  same-missed (some w) = rw (same-port w)
+
+  -- the same entries
+  pub same-entry : (a : ℕ) → entry m a ≡ entry n a
+  same-entry a = go (view m a) refl
+    where
+      go : (o : Option View) → view m a ≡ o → entry m a ≡ entry n a
+      go none e = none-entry m a (k .shape) e ∙ sym (none-entry n a (k .shape′) (sym (k .views a) ∙ e))
+      go (some v) e =
+          sym (view-at m a v e .port) ∙ view-at n a v (sym (k .views a) ∙ e) .port
+
+  -- one effect on both
+  pub alike-apply : (e : Effect) → Valid m e → Valid n e → Alike (apply e m) (apply e n)
+  alike-apply e p q =
+      record {
+        shape = shape-apply e m (k .shape) p;
+        shape′ = shape-apply e n (k .shape′) q;
+        views = λ a. view-apply e m a (k .shape) p ∙ ap (viewAfter e a) (k .views a) ∙ sym (view-apply e n a (k .shape′) q);
+      }
+
+  pub alike-effects : {e f : Effect} → e ≡ f → Valid m e → Valid n f → Alike (apply e m) (apply f n)
+  alike-effects {e} {f} i p q = subst (λ (g : Effect). Alike (apply e m) (apply g n)) i (alike-apply e p (subst (Valid n) (sym i) q))
+
+-- ---- worlds
+
+pub record Same (s u : World) : Type 0 where
+  pub areas : Alike (s .areas) (u .areas)
+  pub exchange : s .controller .exchange ≡ u .controller .exchange
+  pub times : s .controller .times ≡ u .controller .times
+  pub device : s .controller .device ≡ u .controller .device
+
+-- both lines heard alike: whichever is trusted
+pub either-line : (l : Lines) (y : Hearing) → trusted l y y ≡ y
+either-line l y = go (l .laa)
+  where
+    go : (b : Bool) → cond b y y ≡ y
+    go true = refl
+    go false = refl
+
+module _ (s u : World) (k : Same s u) where
+  abbrev M : Areas
+  M = s .areas
+
+  abbrev N : Areas
+  N = u .areas
+
+  abbrev C : Controller
+  C = s .controller
+
+  abbrev E : Controller
+  E = u .controller
+
+  same-hear : (y : Hearing) → length (y .words) ≡ 16 → Same (step (hear y y) s) (step (hear y y) u)
+  unfolding step effect hearController hearEffect heardBy heard
+  same-hear y l =
+      rw (either-line (C .lines) y, either-line (E .lines) y)
+      (record {
+        areas = alike-effects M N (k .areas)
+            (same-effect M N (k .areas) (asHeard (y .kind) (C .exchange) y) y ∙ ap (λ (x : Exchange). effectOf N (asHeard (y .kind) x y) y) (k .exchange))
+            (valid-heard M y l (y .kind) (C .exchange)) (valid-heard N y l (y .kind) (E .exchange));
+        exchange = same-exchange M N (k .areas) (C .device) (C .exchange) (asHeard (y .kind) (C .exchange) y)
+            ∙ ap₂ (λ (d : Device) (x : Exchange). exchangeAfter d N x (asHeard (y .kind) x y)) (k .device) (k .exchange);
+        times = ap₂ (λ (t : Times) (x : Exchange). timesAfter t (asHeard (y .kind) x y)) (k .times) (k .exchange);
+        device = k .device;
+      })
+
+  same-due : due s ≡ due u
+  same-due = ap₂ expired (k .exchange) (k .times)
+
+  same-tick : Same (tick s) (tick u)
+  unfolding tick tickController tickEffect
+  same-tick =
+      record {
+        areas = alike-effects M N (k .areas) (same-missed M N (k .areas) (due s) ∙ ap (effectLater N) same-due) (later-valid M (due s)) (later-valid N (due u));
+        exchange = ap₂ exchangeLater (k .exchange) same-due;
+        times = ap timesLater (k .times);
+        device = k .device;
+      }
+
+same-ticks : (n : ℕ) (s u : World) → Same s u → Same (ticks n s) (ticks n u)
+unfolding ticks
+same-ticks zero s u k = k
+same-ticks (suc n) s u k = same-ticks n (tick s) (tick u) (same-tick s u k)
+
+module _ (s u : World) (k : Same s u) where
+  -- the host's calls, accepted in both
+  same-area : (c : Call) {e f : Effect} → e ≡ f → Valid (s .areas) e → Valid (u .areas) f
+      → Same (world (s .controller) (apply e (s .areas))) (world (u .controller) (apply f (u .areas)))
+  same-area c i p q =
+      record { areas = alike-effects (s .areas) (u .areas) (k .areas) i p q; exchange = k .exchange; times = k .times; device = k .device }
+
+  same-set : (t : Setting) → Same (step (setting t) s) (step (setting t) u)
+  unfolding step tell
+  same-set (address a) = record { areas = k .areas; exchange = k .exchange; times = k .times; device = ap (λ (d : Device). device a (d .set) (d .status)) (k .device) }
+  same-set (status w) = record { areas = k .areas; exchange = k .exchange; times = k .times; device = ap (λ (d : Device). device (d .address) true w) (k .device) }
+  same-set (replyTime t) =
+      record { areas = k .areas; exchange = k .exchange; times = ap (λ (x : Times). times (x .since) (x .line) t (x .adopted)) (k .times); device = k .device }
+  same-set (slm b) = record { areas = k .areas; exchange = k .exchange; times = k .times; device = k .device }
+  same-set (ls b) = record { areas = k .areas; exchange = k .exchange; times = k .times; device = k .device }
+  same-set clearEC = record { areas = k .areas; exchange = k .exchange; times = k .times; device = k .device }
+  same-set reset = record { areas = k .areas; exchange = refl; times = refl; device = refl }
+  same-set (group0 g) = record { areas = k .areas; exchange = k .exchange; times = k .times; device = k .device }
+  same-set (group1 g) = record { areas = k .areas; exchange = k .exchange; times = k .times; device = k .device }
+
+  -- The same call, heard alike on both lines and accepted in both worlds, leaves them the same.
+  pub same-step : (c : Call) → Typed c → HeardAlike c → refusal c s ≡ 0 → refusal c u ≡ 0 → Same (step c s) (step c u)
+  unfolding step effect
+  same-step (hear a b) t l p q = subst (λ (y : Hearing). Same (step (hear a y) s) (step (hear a y) u)) l (same-hear s u k a (t .0))
+  same-step (quiet n) t l p q = same-ticks n s u k
+  same-step (openPort a p code sink i) t l r q = same-area (openPort a p code sink i) refl (valid-open a p code sink i s r) (valid-open a p code sink i u q)
+  same-step (closePort a) t l p q = same-area (closePort a) (ap (closed a) (same-entry _ _ (k .areas) a)) (valid-close a s p) (valid-close a u q)
+  same-step (writePort a ws) t l p q = same-area (writePort a ws) (ap (λ (n : ℕ). fill n ws) (same-entry _ _ (k .areas) a)) (valid-write a ws s p) (valid-write a ws u q)
+  same-step (readPort a) t l p q = k
+  same-step (setting t) ty l p q = same-set t

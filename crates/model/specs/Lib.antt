@@ -1,0 +1,10 @@
+pub mod Layout
+pub mod Ports
+pub mod Shape
+pub mod Lines
+pub mod Event
+pub mod Quiet
+pub mod Host
+pub mod Calls
+pub mod Past
+pub mod Damage

@@ -1,0 +1,73 @@
+-- Document 01, "Two lines": the trusted and the observed line, and the five rules. Assumes nothing.
+use Prim.Native.Nat.{ℕ}
+use mathlib.Core.Bool.{Bool, true, false, cond, not, _&&_, _||_}
+use lib.Dec.{eqb}
+use Rattle.frames.specs.declared.Kind.{Kind}
+use Rattle.frames.specs.declared.Kind.the-variants.{Silence, Noise, Master, Slave}
+use Rattle.frames.specs.declared.Hearing.{Hearing}
+use Rattle.model.specs.declared.Lines.{Lines}
+
+abbrev pub lines : Bool → Bool → Bool → Bool → Lines
+lines laa rld ls slm = record { laa = laa; rld = rld; ls = ls; slm = slm }
+
+-- LAA starts at 1, RLD, LS and SLM at 0
+abbrev pub freshLines : Lines
+freshLines = lines true false false false
+
+-- LAA says that line A is the trusted one
+abbrev pub trusted : Lines → Hearing → Hearing → Hearing
+trusted l a b = cond (l .laa) a b
+
+abbrev pub observed : Lines → Hearing → Hearing → Hearing
+observed l a b = cond (l .laa) b a
+
+-- switching turns LAA; with SLM no rule switches
+abbrev pub switchIf : Bool → Lines → Bool
+switchIf when l = cond (when && not (l .slm)) (not (l .laa)) (l .laa)
+
+-- nor sets RLD
+abbrev pub disturbedIf : Bool → Lines → Bool
+disturbedIf when l = l .rld || (when && not (l .slm))
+
+abbrev pub switchAndSet : Bool → Lines → Lines
+switchAndSet when l = lines (switchIf when l) (disturbedIf when l) (l .ls) (l .slm)
+
+-- F-codes 9, 13 and 14
+abbrev pub arbitration : ℕ → Bool
+arbitration code = eqb code 9 || eqb code 13 || eqb code 14
+
+-- rule 1 acts on a judged unsound frame or a reply timeout with RLD clear and SLM clear
+abbrev pub acts1 : Bool → Lines → Bool
+acts1 occasion l = occasion && not (l .rld) && not (l .slm)
+
+unfoldable pub rule1 : Bool → Lines → Lines
+rule1 occasion l = switchAndSet (occasion && not (l .rld)) l
+
+-- rule 2: line timeout
+unfoldable pub rule2 : Bool → Lines → Lines
+rule2 timeout l = switchAndSet timeout l
+
+-- rule 3: a sound status poll to our address switches if RLD is clear, and clears RLD
+unfoldable pub rule3 : Bool → Lines → Lines
+rule3 polled l = lines (switchIf (polled && not (l .rld)) l) (cond polled false (l .rld)) (l .ls) (l .slm)
+
+-- a frame, whatever its kind and quality
+abbrev pub isFrame : Kind → Bool
+isFrame Silence = false
+isFrame Noise = false
+isFrame Master = true
+isFrame Slave = true
+
+-- silence, noise, SQE or a violation
+abbrev pub isPoor : Hearing → Bool
+isPoor h = not (isFrame (h .kind)) || h .sqe || h .violation
+
+-- rule 4: the trusted line heard a frame, and the observed line has silence, noise, SQE or a violation
+unfoldable pub rule4 : Bool → Lines → Lines
+rule4 poorer l = lines (l .laa) (disturbedIf poorer l) (l .ls) (l .slm)
+
+-- rule 5: LS filed by the host acts with RLD and SLM clear, then clears
+unfoldable pub rule5 : Lines → Lines
+rule5 l =
+    let acting = l .ls && not (l .rld) in
+    lines (switchIf acting l) (l .rld) (cond (acting && not (l .slm)) false (l .ls)) (l .slm)

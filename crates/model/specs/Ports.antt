@@ -1,0 +1,184 @@
+-- Document 01, "Memory lent to the calls" and "Host calls on ports": what the areas say of a port, and the four things that a call may
+-- do to them. Assumes nothing.
+use Prim.Native.Nat.{ℕ, _+_, _*_, _/_, _%_}
+use mathlib.Core.Bool.{Bool, true, false, cond, not, _&&_, _||_}
+use mathlib.Core.List.{List}
+use mathlib.Core.Option.{Option, none, some}
+use lib.Dec.{eqb, leb}
+use Rattle.frames.specs.declared.Expected.{Expected}
+use Rattle.frames.specs.declared.Expected.the-variants.{Words as Expects, NoReply}
+use Rattle.frames.specs.Size.{expectedOf}
+use Rattle.model.specs.declared.Words.{Words}
+use Rattle.model.specs.declared.Flags.{Flags}
+use Rattle.model.specs.declared.Faults.{Faults}
+use Rattle.model.specs.declared.Sought.{Sought}
+use Rattle.model.specs.declared.Sought.the-variants.{Nothing, Damaged, Port}
+use Rattle.model.specs.declared.Answer.{Answer}
+use Rattle.model.specs.declared.Answer.the-variants.{Never, Good, Held}
+use Rattle.model.specs.Layout.{Areas, areas, entry, withEntry, portAt, withPort, withWords, flagsOf, wordOf, zeroBits, partOf, withPart}
+
+-- ---- the master word, F-code x 4096 + address
+
+abbrev pub masterWord : ℕ → ℕ → ℕ
+masterWord code a = code * 4096 + a
+
+abbrev pub codeOf : ℕ → ℕ
+codeOf w = w / 4096
+
+abbrev pub addressOf : ℕ → ℕ
+addressOf w = w % 4096
+
+-- only F-codes 0 to 4 have ports
+abbrev pub hasPorts : ℕ → Bool
+hasPorts code = leb code 4
+
+-- how many words a port of this F-code has
+abbrev pub wordsIn : Expected → ℕ
+wordsIn (Expects n) = n
+wordsIn NoReply = 0
+
+unfoldable pub sizeOf : ℕ → ℕ
+sizeOf code = wordsIn (expectedOf code)
+
+-- ---- what stands at an address
+
+-- exactly one of SRC and SINK is set
+abbrev pub oneSide : Flags → Bool
+oneSide f = cond (f .src) (not (f .sink)) (f .sink)
+
+-- word 0 has F-code at most 4 and the sought address, exactly one of SRC and SINK is set, the zero bits are zero, and word 2 is at
+-- most 7
+unfoldable pub wellFormed : ℕ → Words → Bool
+wellFormed a w =
+    hasPorts (codeOf (w .master)) && eqb (addressOf (w .master)) a && oneSide (flagsOf (w .flags)) && zeroBits (w .flags)
+    && leb (w .interrupt) 7
+
+-- an entry 0 means no port; one above 255 is damaged, and so are port words that are not well formed
+unfoldable pub seek : Areas → ℕ → Sought
+seek m a =
+    cond (eqb (entry m a) 0) Nothing
+    (cond (leb (entry m a) 255 && wellFormed a (portAt m (entry m a))) (Port (entry m a)) Damaged)
+
+-- ---- what a port shows
+
+-- VP is the number of the valid page
+abbrev pub validPage : Areas → Flags → List ℕ
+validPage m f = cond (f .vp) (m .page1) (m .page0)
+
+-- the port's own part of whichever page is valid, sized by F-code
+abbrev pub validWords : Areas → ℕ → List ℕ
+validWords m p = partOf (validPage m (flagsOf (portAt m p .flags))) p (sizeOf (codeOf (portAt m p .master)))
+
+-- a port as its address shows it, status bits aside: its number, master word and side, its interrupt, the words that it shows, or
+-- that there are none, and its fills
+pub record View : Type 0 where
+  pub port : ℕ
+  pub word : ℕ
+  pub sink : Bool
+  pub interrupt : ℕ
+  pub shows : Option (List ℕ)
+  pub fills : ℕ
+
+unfoldable pub viewOf : Areas → ℕ → View
+viewOf m p =
+    record {
+      port = p;
+      word = portAt m p .master;
+      sink = flagsOf (portAt m p .flags) .sink;
+      interrupt = portAt m p .interrupt;
+      shows = cond (flagsOf (portAt m p .flags) .ever) (some (validWords m p)) none;
+      fills = portAt m p .fills;
+    }
+
+abbrev pub seen : Areas → Sought → Option View
+seen m Nothing = none
+seen m Damaged = none
+seen m (Port p) = some (viewOf m p)
+
+-- what stands open at an address, if anything does
+unfoldable pub view : Areas → ℕ → Option View
+view m a = seen m (seek m a)
+
+-- held: filled, but STO or TERR set
+abbrev pub isHeld : Faults → Bool
+isHeld f = f .sto || f .terr
+
+-- the state of a port: never, good or held
+unfoldable pub stateOf : Flags → Answer
+stateOf f = cond (f .ever) (cond (isHeld (f .faults)) Held Good) Never
+
+-- ---- status bits, as a set
+
+abbrev pub noFaults : Faults
+noFaults = record { sto = false; terr = false; crc = false; sqe = false; alo = false }
+
+-- STO alone
+abbrev pub replyMissing : Faults
+replyMissing = record { sto = true; terr = false; crc = false; sqe = false; alo = false }
+
+-- TERR set, STO clear, CRC, SQE and ALO as told
+abbrev pub replyBad : Bool → Bool → Bool → Faults
+replyBad crc sqe alo = record { sto = false; terr = true; crc = crc; sqe = sqe; alo = alo }
+
+-- ---- port words after a fill, with other status bits, and freshly opened
+
+-- VP turned, EVER set, the status bits cleared, one fill added modulo 65,536
+abbrev pub turned : Flags → Flags
+turned f = record { vp = not (f .vp); ever = true; src = f .src; sink = f .sink; faults = noFaults }
+
+unfoldable pub filledWords : Words → Words
+filledWords w =
+    record {
+      master = w .master;
+      flags = wordOf (turned (flagsOf (w .flags)));
+      interrupt = w .interrupt;
+      fills = (w .fills + 1) % 65536;
+    }
+
+-- only the status bits change
+abbrev pub faulty : Flags → Faults → Flags
+faulty f x = record { vp = f .vp; ever = f .ever; src = f .src; sink = f .sink; faults = x }
+
+unfoldable pub markedWords : Words → Faults → Words
+markedWords w x =
+    record { master = w .master; flags = wordOf (faulty (flagsOf (w .flags)) x); interrupt = w .interrupt; fills = w .fills }
+
+-- status, EVER, VP and fills zero
+unfoldable pub openWords : ℕ → ℕ → Bool → ℕ → Words
+openWords a code sink interrupt =
+    record {
+      master = masterWord code a;
+      flags = wordOf (record { vp = false; ever = false; src = not sink; sink = sink; faults = noFaults });
+      interrupt = interrupt;
+      fills = 0;
+    }
+
+abbrev pub noWords : Words
+noWords = record { master = 0; flags = 0; interrupt = 0; fills = 0 }
+
+-- ---- what a call does to the areas
+
+pub data Effect : Type 0 where
+  -- nothing
+  untouched : Effect
+  -- words fill port p
+  fill : (p : ℕ) (ws : List ℕ) → Effect
+  -- the status bits of port p change
+  mark : (p : ℕ) (x : Faults) → Effect
+  -- port p is opened at address a, or closed
+  opened : (a p code : ℕ) (sink : Bool) (interrupt : ℕ) → Effect
+  closed : (a p : ℕ) → Effect
+
+-- copy to the page that is not valid, and turn VP
+unfoldable pub filled : Areas → ℕ → List ℕ → Areas
+filled m p ws =
+    let one = flagsOf (portAt m p .flags) .vp in
+    areas (m .index) (withWords (m .ports) p (filledWords (portAt m p))) (cond one (withPart (m .page0) p ws) (m .page0))
+    (cond one (m .page1) (withPart (m .page1) p ws))
+
+unfoldable pub apply : Effect → Areas → Areas
+apply untouched m = m
+apply (fill p ws) m = filled m p ws
+apply (mark p x) m = withPort m p (markedWords (portAt m p) x)
+apply (opened a p code sink i) m = withPort (withEntry m a p) p (openWords a code sink i)
+apply (closed a p) m = withPort (withEntry m a 0) p noWords
