@@ -85,7 +85,7 @@ shown-size m a v s e ws q =
 -- ---- what is answered to a sound master frame
 
 -- F-codes 0 to 4 expect a reply
-expected-port : (code : ℕ) → code ≤ 4 → (n : ℕ) × (expectedOf code ≡ Expects n)
+pub expected-port : (code : ℕ) → code ≤ 4 → (n : ℕ) × (expectedOf code ≡ Expects n)
 unfolding expectedOf sizes
 expected-port zero h = (1, refl)
 expected-port (suc zero) h = (2, refl)
@@ -95,7 +95,7 @@ expected-port (suc (suc (suc (suc zero)))) h = (16, refl)
 expected-port (suc (suc (suc (suc (suc c))))) h = absurd (omega arith)
 
 -- and so does a status poll
-poll-expects : expectedOf 15 ≡ Expects 1
+pub poll-expects : expectedOf 15 ≡ Expects 1
 unfolding expectedOf sizes
 poll-expects = refl
 

@@ -1,0 +1,96 @@
+//! Memory lent to the calls: four areas of 16-bit words.
+
+use crate::frames::slave_size;
+use crate::refusal::{refuse_unless, AREA, DAMAGED};
+
+// Bits of port word 1; the others are zero.
+pub const VP: u16 = 1 << 0;
+pub const EVER: u16 = 1 << 1;
+pub const SRC: u16 = 1 << 2;
+pub const SINK: u16 = 1 << 3;
+pub const STO: u16 = 1 << 4;
+pub const TERR: u16 = 1 << 5;
+pub const CRC: u16 = 1 << 6;
+pub const SQE: u16 = 1 << 7;
+pub const ALO: u16 = 1 << 8;
+pub const STATUS_BITS: u16 = STO | TERR | CRC | SQE | ALO;
+pub const ZERO_BITS: u16 = !(VP | EVER | SRC | SINK | STATUS_BITS);
+
+#[derive(Clone, PartialEq, Debug)]
+pub struct Areas {
+    pub index: Vec<u16>,
+    pub ports: Vec<u16>,
+    pub page0: Vec<u16>,
+    pub page1: Vec<u16>,
+}
+
+/// A port that was found well formed: its number and its words 0 to 2.
+#[derive(Clone, Copy, PartialEq, Debug)]
+pub struct Port { pub number: usize, pub master_word: u16, pub word1: u16, pub interrupt: u16 }
+
+impl Port {
+    pub fn has(self, bits: u16) -> bool {
+        self.word1 & bits != 0
+    }
+
+    pub fn size(self) -> usize {
+        slave_size(self.master_word >> 12).expect("well formed: F-code at most 4")
+    }
+}
+
+impl Areas {
+    /// Four areas of the right lengths, all words zero.
+    pub fn zero() -> Areas {
+        Areas { index: vec![0; 4096], ports: vec![0; 1024], page0: vec![0; 4096], page1: vec![0; 4096] }
+    }
+
+    pub fn test_lengths(&self) -> Result<(), u16> {
+        let lengths = [self.index.len(), self.ports.len(), self.page0.len(), self.page1.len()];
+        refuse_unless(lengths == [4096, 1024, 4096, 4096], AREA)
+    }
+
+    /// The index entry of address a.
+    pub fn entry(&self, a: u16) -> Result<u16, u16> {
+        let entry = self.index[a as usize];
+        refuse_unless(entry <= 255, DAMAGED)?;
+        Ok(entry)
+    }
+
+    /// The port of address a, none for entry 0.
+    pub fn port_of(&self, a: u16) -> Result<Option<Port>, u16> {
+        let number = self.entry(a)? as usize;
+        if number == 0 {
+            return Ok(None);
+        }
+        let words = &self.ports[4 * number..4 * number + 4];
+        let port = Port { number, master_word: words[0], word1: words[1], interrupt: words[2] };
+        let well_formed = port.master_word >> 12 <= 4
+            && port.master_word & 0x0FFF == a
+            && port.has(SRC) != port.has(SINK)
+            && !port.has(ZERO_BITS)
+            && port.interrupt <= 7;
+        refuse_unless(well_formed, DAMAGED)?;
+        Ok(Some(port))
+    }
+
+    /// The port's own part of the valid page, sized by F-code.
+    pub fn valid_words(&self, port: Port) -> Vec<u16> {
+        let page = if port.has(VP) { &self.page1 } else { &self.page0 };
+        page[16 * port.number..16 * port.number + port.size()].to_vec()
+    }
+
+    /// One fill: copy to the page that is not valid, turn VP, set EVER, clear the
+    /// status bits, add one fill.
+    pub fn fill(&mut self, port: Port, words: &[u16]) {
+        let page = if port.has(VP) { &mut self.page0 } else { &mut self.page1 };
+        page[16 * port.number..16 * port.number + words.len()].copy_from_slice(words);
+        let first = 4 * port.number;
+        self.ports[first + 1] = ((port.word1 ^ VP) | EVER) & !STATUS_BITS;
+        self.ports[first + 3] = self.ports[first + 3].wrapping_add(1);
+    }
+
+    /// Only the status bits change, to those given.
+    pub fn set_status_bits(&mut self, port: Port, bits: u16) {
+        self.ports[4 * port.number + 1] = (port.word1 & !STATUS_BITS) | bits;
+    }
+}

@@ -1,0 +1,73 @@
+//! Host calls on ports. Order of refusals: AREA, RANGE, DAMAGED for the entry, NOPORT or TAKEN, DAMAGED
+//! for the port words (not on opening), SIDE, RANGE for the size of a write.
+
+use crate::areas::{Areas, Port, EVER, SINK, SRC, STO, TERR};
+use crate::refusal::{number, refuse_unless, NOPORT, RANGE, SIDE, TAKEN};
+
+#[derive(Clone, Copy, PartialEq, Debug)]
+pub enum Answer { Never, Good, Held, Refused(u16) }
+
+/// What close, write, ask and fetch begin with.
+fn sought(areas: &Areas, a: u16) -> Result<Port, u16> {
+    areas.test_lengths()?;
+    refuse_unless(a <= 4095, RANGE)?;
+    areas.port_of(a)?.ok_or(NOPORT)
+}
+
+/// Sets the entry and the four words, with status, EVER, VP and fills zero.
+pub fn open(areas: &mut Areas, a: u16, p: u16, code: u16, sink: bool, interrupt: u16) -> u16 {
+    number(try_open(areas, a, p, code, sink, interrupt))
+}
+
+fn try_open(areas: &mut Areas, a: u16, p: u16, code: u16, sink: bool, interrupt: u16) -> Result<(), u16> {
+    areas.test_lengths()?;
+    let in_range = a <= 4095 && (1..=255).contains(&p) && code <= 4 && interrupt <= 7;
+    refuse_unless(in_range, RANGE)?;
+    let first = 4 * p as usize;
+    refuse_unless(areas.entry(a)? == 0 && areas.ports[first + 1] == 0, TAKEN)?;
+    areas.index[a as usize] = p;
+    areas.ports[first] = code * 4096 + a;
+    areas.ports[first + 1] = if sink { SINK } else { SRC };
+    areas.ports[first + 2] = interrupt;
+    areas.ports[first + 3] = 0;
+    Ok(())
+}
+
+/// Zeroes entry and port words; pages stay.
+pub fn close(areas: &mut Areas, a: u16) -> u16 {
+    number(sought(areas, a).map(|port| {
+        areas.index[a as usize] = 0;
+        areas.ports[4 * port.number..4 * port.number + 4].fill(0);
+    }))
+}
+
+/// Source only, exact size: fills as a slave frame does, without interrupt.
+pub fn write(areas: &mut Areas, a: u16, words: &[u16]) -> u16 {
+    number(try_write(areas, a, words))
+}
+
+fn try_write(areas: &mut Areas, a: u16, words: &[u16]) -> Result<(), u16> {
+    let port = sought(areas, a)?;
+    refuse_unless(!port.has(SINK), SIDE)?;
+    refuse_unless(words.len() == port.size(), RANGE)?;
+    areas.fill(port, words);
+    Ok(())
+}
+
+/// The first of the two calls of a read.
+pub fn ask(areas: &Areas, a: u16) -> Answer {
+    match sought(areas, a) {
+        Err(refusal) => Answer::Refused(refusal),
+        Ok(port) if !port.has(EVER) => Answer::Never,
+        Ok(port) if port.has(STO | TERR) => Answer::Held,
+        Ok(_) => Answer::Good,
+    }
+}
+
+/// The second: empty exactly when asking refuses or answers never.
+pub fn fetch(areas: &Areas, a: u16) -> Vec<u16> {
+    match sought(areas, a) {
+        Ok(port) if port.has(EVER) => areas.valid_words(port),
+        _ => Vec::new(),
+    }
+}

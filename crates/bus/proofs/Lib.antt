@@ -1,0 +1,4 @@
+pub mod Ports
+pub mod Meeting
+pub mod Outcomes
+pub mod Passing

@@ -1,0 +1,27 @@
+-- Quiet time by jumps and single bit times, for the loop of `calls::pass`. Assumes nothing.
+use Prim.Native.Nat.{ℕ, zero, suc, _-_, _≤_, _<_}
+use mathlib.Core.Path.{_≡_, sym, ap}
+use native.Mathlib.Omega.{arith}
+use Rattle.model.specs.declared.Controller.{Controller}
+use Rattle.model.specs.Event.{World, world}
+use Rattle.model.specs.Quiet.{tick, ticks}
+use Rattle.controller.specs.declared.Passed.{Passed}
+use Rattle.controller.specs.Jump.{jumped}
+use Rattle.controller.proofs.Jump.{jump-on}
+
+-- a jump leaves no more than there was
+pub left-less : (n : ℕ) (c : Controller) (j : Passed) → j ≡ jumped n c → j .left ≤ n
+unfolding jumped
+left-less n c j e = rw e (omega arith)
+
+-- after a jump, what is left of the bit times gives what all would have given
+pub jump-left : (n : ℕ) (s : World) (j : Passed) → j ≡ jumped n (s .controller) → ticks (j .left) (world (j .controller) (s .areas)) ≡ ticks n s
+jump-left n s j e = rw e (sym (jump-on n s))
+
+-- one bit time by itself
+pub tick-left : (n : ℕ) (s : World) → 0 < n → ticks (n - 1) (tick s) ≡ ticks n s
+unfolding ticks
+tick-left zero s h = absurd (omega arith)
+tick-left (suc n) s h =
+    let one-less : suc n - 1 ≡ n = omega arith in
+    ap (λ (k : ℕ). ticks k (tick s)) one-less

@@ -1,0 +1,26 @@
+-- `found::port_for` gives the number of the port. Assumes nothing.
+use Rattle.model.specs.Layout.{areas}
+use Rattle.model.specs.Ports.{seek}
+use Rattle.bus.proofs.Ports.{port-number}
+use borrow.Author.Needs.{needs}
+use Rattle.bus.proofs.found.port_for.Statement.{statement}
+use Rattle.bus.proofs.found.port_for.Tie as tie
+
+seek-requires : tie.Need-seek-requires
+seek-requires c κs = search needs
+
+with-word-requires : tie.Need-with-word-requires
+with-word-requires c κs = search needs
+
+pick-requires : tie.Need-pick-requires
+pick-requires c κs = search needs
+
+returns : tie.Need-returns
+unfolding seek
+returns c =
+    let a = c .before .before .before .before .before .before .before .args in
+    rw (c .pick .ensures, c .before .with-word .ensures, c .before .before .seek .ensures)
+    (port-number (areas (a .index .now) (a .ports .now) (a .page0 .now) (a .page1 .now)) (a .w))
+
+pub port-for-spec : {M : Type 1} → statement M
+port-for-spec = tie.close (tie.spec seek-requires with-word-requires pick-requires returns)

@@ -1,0 +1,53 @@
+-- `ports::calls::ask` answers as defined: from what its callees ensure. Assumes nothing.
+use borrow.Author.Needs.{needs}
+use Rattle.model.specs.Calls.{asked}
+use Rattle.ports.specs.Host.{lent}
+use Rattle.ports.proofs.Host.{read-number}
+use Rattle.ports.proofs.calls.ask.Statement.{statement}
+use Rattle.ports.proofs.calls.ask.Tie as tie
+
+reach-requires : tie.Need-reach-requires
+reach-requires c κs = search needs
+
+get-requires : tie.Need-get-requires
+get-requires c κs = search needs
+
+get-port-requires : tie.Need-get-port-requires
+get-port-requires c κs = search needs
+
+flags-of-requires : tie.Need-flags-of-requires
+flags-of-requires c κs = search needs
+
+state-of-requires : tie.Need-state-of-requires
+state-of-requires c κs = search needs
+
+pick-answer-requires : tie.Need-pick-answer-requires
+pick-answer-requires c κs = search needs
+
+returns : tie.Need-returns
+unfolding asked
+returns c =
+    let found = c .before .before .before in
+    let a = found .before .before .before .before .before .before .before .args in
+    let m = lent (a .index) (a .ports) (a .page0) (a .page1) in
+    rw (
+      read-number m (a .a),
+      c .pick-answer .ensures,
+      c .before .state-of .ensures,
+      c .before .before .flags-of .ensures,
+      found .get-port .ensures,
+      found .before .get .ensures,
+      found .before .before .reach .ensures,
+    )
+
+pub ask-spec : {M : Type 1} → statement M
+ask-spec =
+    tie.close
+    (tie.spec
+    reach-requires
+    get-requires
+    get-port-requires
+    flags-of-requires
+    state-of-requires
+    pick-answer-requires
+    returns)

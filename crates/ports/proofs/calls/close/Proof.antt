@@ -1,0 +1,63 @@
+-- `ports::calls::close` leaves what is defined: from what its callees ensure, an accepted call and a refused one. Assumes nothing.
+use borrow.Author.Needs.{needs}
+use Rattle.model.specs.Ports.{apply}
+use Rattle.model.specs.Calls.{effect, step}
+use Rattle.ports.specs.Host.{lent}
+use Rattle.ports.proofs.Host.{close-number, done, refused}
+use Rattle.ports.proofs.calls.close.Statement.{statement}
+use Rattle.ports.proofs.calls.close.Tie as tie
+
+reach-requires : tie.Need-reach-requires
+reach-requires c κs = search needs
+
+get-requires : tie.Need-get-requires
+get-requires c κs = search needs
+
+put-requires : tie.Need-put-requires
+put-requires c κs = search needs
+
+put-port-requires : tie.Need-put-port-requires
+put-port-requires c κs = search needs
+
+same-length : tie.Need-same-length
+same-length c = search needs
+
+same-length-2 : tie.Need-same-length-2
+same-length-2 c = search needs
+
+returns : tie.Need-returns
+unfolding step effect apply
+returns c =
+    let found = c .before .before .before .before .before .before .before .before in
+    let tested = found .before .before .before in
+    let a = tested .before .before .before .before .before .before .before .args in
+    let m = lent (a .index) (a .ports) (a .page0) (a .page1) in
+    rw (c .before .before .put-port .ensures, c .before .before .before .before .before .before .put .ensures, found .get .ensures)
+    (done _ m (close-number m (a .a)) (tested .reach .ensures) (found .before .before .if1 .taken))
+
+same-length-3 : tie.Need-same-length-3
+same-length-3 c = search needs
+
+same-length-4 : tie.Need-same-length-4
+same-length-4 c = search needs
+
+returns-2 : tie.Need-returns-2
+returns-2 c =
+    let a = c .before .before .before .before .before .before .before .before .args in
+    let m = lent (a .index) (a .ports) (a .page0) (a .page1) in
+    refused _ m (close-number m (a .a)) (c .before .reach .ensures) (c .if1 .left)
+
+pub close-spec : {M : Type 1} → statement M
+close-spec =
+    tie.close
+    (tie.spec
+    reach-requires
+    get-requires
+    put-requires
+    put-port-requires
+    same-length
+    same-length-2
+    returns
+    same-length-3
+    same-length-4
+    returns-2)
