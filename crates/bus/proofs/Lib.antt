@@ -1,4 +1,2 @@
-pub mod Ports
-pub mod Meeting
 pub mod Outcomes
 pub mod Passing

@@ -14,12 +14,15 @@ use Rattle.model.specs.Ports.{codeOf, addressOf, hasPorts, wellFormed, seek}
 use Rattle.model.specs.Lines.{trusted, observed}
 use Rattle.model.specs.Event.{World, world, heard, heardBy, hearController, hearEffect, hearAnswer, silent}
 use Rattle.model.specs.Quiet.{ticks, dueWithin}
-use Rattle.model.specs.Calls.{Call, hear, quiet, neededFor, needed, wordOfHeard, entryAbove, illFormed, refusal, effect, step, answer, outcome}
-use Rattle.controller.proofs.Within.{due-in}
-use Rattle.bus.specs.Promise.{isDamaged, damagedBy, hearRefusal, quietRefusal, heardOutcome}
+use Rattle.model.specs.Calls.{Call, hear, quiet, neededFor, needed, wordOfHeard, entryAbove, illFormed, refusal, effect, step, answer}
+use Rattle.model.specs.Calls.{outcome}
+use Rattle.timing.proofs.Within.{due-in}
+use Rattle.answering.specs.Need.{isDamaged, damagedBy}
+use Rattle.bus.specs.Promise.{hearRefusal, quietRefusal, heardOutcome}
 
 -- a port that is needed is damaged: its entry is above 255, or its words are not well formed
-damaged-tests : (m : Areas) (a : ℕ) → isDamaged (seek m a) ≡ (ltb 255 (entry m a) || (not (eqb (entry m a) 0) && not (wellFormed a (portAt m (entry m a)))))
+damaged-tests : (m : Areas) (a : ℕ)
+    → isDamaged (seek m a) ≡ (ltb 255 (entry m a) || (not (eqb (entry m a) 0) && not (wellFormed a (portAt m (entry m a)))))
 unfolding seek
 damaged-tests m a = go (eqb (entry m a) 0) refl (leb (entry m a) 255) refl (wellFormed a (portAt m (entry m a)))
   where
@@ -34,7 +37,9 @@ damaged-needed : (m : Areas) (o : Option ℕ) → damagedBy m o ≡ (entryAbove 
 damaged-needed m none = refl
 damaged-needed m (some w) = go (hasPorts (codeOf w))
   where
-    go : (b : Bool) → (b && isDamaged (seek m (addressOf w))) ≡ (entryAbove m (cond b (some (addressOf w)) none) || illFormed m (cond b (some (addressOf w)) none))
+    go : (b : Bool)
+        → (b && isDamaged (seek m (addressOf w)))
+        ≡ (entryAbove m (cond b (some (addressOf w)) none) || illFormed m (cond b (some (addressOf w)) none))
     go true = damaged-tests m (addressOf w)
     go false = refl
 
@@ -59,15 +64,18 @@ quiet-refused s n = rw (← (due-in n s), damaged-needed (s .areas) (dueWithin n
 
 -- an accepted event, accepted quiet time, and a refused call
 pub hear-accepted : (s : World) (a b : Hearing) → eqb (refusal (hear a b) s) 0 ≡ true
-    → outcome (hear a b) s ≡ heardOutcome s (heardBy (s .controller) a b) (trusted (s .controller .lines) a b) (observed (s .controller .lines) a b)
+    → outcome (hear a b) s
+    ≡ heardOutcome s (heardBy (s .controller) a b) (trusted (s .controller .lines) a b) (observed (s .controller .lines) a b)
 unfolding outcome step effect answer hearController hearEffect hearAnswer
 hear-accepted s a b e = rw (e, eqb-true (refusal (hear a b) s) 0 e)
 
-pub quiet-accepted : (s : World) (n : ℕ) → eqb (refusal (quiet n) s) 0 ≡ true → outcome (quiet n) s ≡ record { refusal = 0; reply = silent; world = ticks n s }
+pub quiet-accepted : (s : World) (n : ℕ) → eqb (refusal (quiet n) s) 0 ≡ true
+    → outcome (quiet n) s ≡ record { refusal = 0; reply = silent; world = ticks n s }
 unfolding outcome step answer
 quiet-accepted s n e = rw (e, eqb-true (refusal (quiet n) s) 0 e)
 
-pub call-refused : (c : Call) (s : World) (n : ℕ) → n ≡ refusal c s → eqb n 0 ≡ false → outcome c s ≡ record { refusal = n; reply = silent; world = s }
+pub call-refused : (c : Call) (s : World) (n : ℕ) → n ≡ refusal c s → eqb n 0 ≡ false
+    → outcome c s ≡ record { refusal = n; reply = silent; world = s }
 unfolding outcome
 call-refused c s n e f = rw (← e, f)
 

@@ -5,9 +5,9 @@ use native.Mathlib.Omega.{arith}
 use Rattle.model.specs.declared.Controller.{Controller}
 use Rattle.model.specs.Event.{World, world}
 use Rattle.model.specs.Quiet.{tick, ticks}
-use Rattle.controller.specs.declared.Passed.{Passed}
-use Rattle.controller.specs.Jump.{jumped}
-use Rattle.controller.proofs.Jump.{jump-on}
+use Rattle.timing.specs.declared.Passed.{Passed}
+use Rattle.timing.specs.Jump.{jumped}
+use Rattle.timing.proofs.Jump.{jump-on}
 
 -- a jump leaves no more than there was
 pub left-less : (n : ℕ) (c : Controller) (j : Passed) → j ≡ jumped n c → j .left ≤ n
@@ -15,7 +15,8 @@ unfolding jumped
 left-less n c j e = rw e (omega arith)
 
 -- after a jump, what is left of the bit times gives what all would have given
-pub jump-left : (n : ℕ) (s : World) (j : Passed) → j ≡ jumped n (s .controller) → ticks (j .left) (world (j .controller) (s .areas)) ≡ ticks n s
+pub jump-left : (n : ℕ) (s : World) (j : Passed) → j ≡ jumped n (s .controller)
+    → ticks (j .left) (world (j .controller) (s .areas)) ≡ ticks n s
 jump-left n s j e = rw e (sym (jump-on n s))
 
 -- one bit time by itself

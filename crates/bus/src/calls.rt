@@ -3,28 +3,28 @@ ghost use mathlib.Core.Path.{_≡_};
 ghost use Rattle.model.specs.Event.{world};
 ghost use Rattle.model.specs.Quiet.{tick, ticks};
 ghost use Rattle.model.specs.Calls.{hear, quiet, outcome};
-ghost use Rattle.controller.specs.Raised.{interruptHeard};
-ghost use Rattle.ports.specs.Host.{lent};
+ghost use Rattle.events.specs.Raised.{interruptHeard};
+ghost use Rattle.areas.specs.Lent.{lent};
 ghost use Rattle.bus.specs.Promise.{told, afterWith, heardOutcome, hearRefusal, quietRefusal};
 use crate::Answered;
-use crate::choice::either;
-use crate::found::interrupt_for;
-use crate::frame::silent;
-use crate::need;
-use crate::reply::meet_heard;
-use crate::take;
-use controller::counts;
-use controller::heard;
-use controller::lines;
-use controller::passing;
-use controller::quiet;
-use controller::raised;
+use answering::found::interrupt_for;
+use answering::frame::silent;
+use answering::need;
+use answering::reply::meet_heard;
+use answering::take;
+use areas::layout;
+use choice::either;
+use constants::LAST_QUIET;
+use events::counts;
+use events::heard;
+use events::raised;
 use frames::Hearing;
 use model::Controller;
 use model::Exchange;
 use model::Heard;
 use model::Times;
-use ports::layout;
+use timing::passing;
+use timing::quiet;
 
 // The interrupt of the sink that a judged slave frame answers for, 0 for none.
 fn interrupt_heard(index: &[u16], ports: &[u16], page0: &[u16], page1: &[u16], h: Heard) -> u16
@@ -193,7 +193,7 @@ fn quiet_refusal(
 {
     let fit = layout::fits(index, ports, page0, page1);
     let d = quiet::due_within(n, x, t);
-    need::event_refusal(fit, 65535 < n, need::damaged_due(index, ports, d))
+    need::event_refusal(fit, LAST_QUIET < n, need::damaged_due(index, ports, d))
 }
 
 // n quiet bit times.

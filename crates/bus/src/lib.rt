@@ -5,26 +5,13 @@
 // nothing. `hear` copies nothing but the words of the frame that it takes or sends; `quiet` goes from deadline to deadline, so its cost
 // does not grow with the bit times. specs/Promise.antt says how the answer and the areas make up an outcome.
 pub mod calls;
-mod choice;
-mod found;
-mod frame;
-mod need;
-mod reply;
-mod take;
 
 use frames::Hearing;
 use model::Controller;
-use model::Exchange;
 
 // What a call answers: the number of a refusal or 0, the controller afterwards, and the reply as a line hears it, or silence.
 pub struct Answered {
     pub refusal: u16,
     pub controller: Controller,
-    pub reply: Hearing,
-}
-
-// What a sound master frame is met with: the exchange afterwards, and the reply.
-pub struct Met {
-    pub exchange: Exchange,
     pub reply: Hearing,
 }

@@ -7,7 +7,8 @@ use Rattle.interrupts.specs.Shape.{Call, writeStatus, writePending, writeMask, 
 use Rattle.model.specs.declared.Controller.{Controller}
 use Rattle.model.specs.Host.{tell, group0, group1}
 use Rattle.controller.specs.declared.GroupCall.{GroupCall}
-use Rattle.controller.specs.declared.GroupCall.the-variants.{ReadStatus, ReadVector, WriteStatus, WriteVector, WritePending, WriteMask}
+use Rattle.controller.specs.declared.GroupCall.the-variants.{ReadStatus, ReadVector, WriteStatus, WriteVector, WritePending}
+use Rattle.controller.specs.declared.GroupCall.the-variants.{WriteMask}
 use Rattle.controller.specs.declared.Reading.{Reading}
 
 abbrev pub callOf : GroupCall → Call

@@ -1,6 +1,9 @@
 // Document 01, "Host calls on ports": what the host sets, and reset. No call here is lent an area.
 use crate::Told;
-use crate::bools::either;
+use choice::either;
+use constants::FIRST_REPLY_TIME;
+use constants::LAST_ADDRESS;
+use constants::RANGE;
 use interrupts::Group;
 use interrupts::names::USED_0;
 use interrupts::names::USED_1;
@@ -11,34 +14,36 @@ use model::Exchange;
 use model::Lines;
 use model::Times;
 ghost use mathlib.Core.Path.{_≡_};
+ghost use mathlib.Core.Bool.{cond};
 ghost use Rattle.model.specs.Host.{freshController, address, status, replyTime, slm, ls, clearEC, isReplyTime, tell};
-ghost use Rattle.controller.specs.Settings.{told};
+ghost use Rattle.controller.specs.Settings.{answer, told};
 
-const RANGE: u16 = 2;
-
-const LAST_ADDRESS: u16 = 4095;
-
-const FIRST_REPLY_TIME: u16 = 64;
+// The controller d after a setting, or, where its argument is out of range, the refusal and the controller c before it.
+fn tell_if(out: bool, c: Controller, d: Controller) -> Told
+    ensures { λ r. ⌜ r ≡ cond out (answer 2 c) (answer 0 d) ⌝ }
+{
+    if out {
+        Told {
+            refusal: RANGE,
+            controller: c,
+        }
+    } else {
+        Told {
+            refusal: 0,
+            controller: d,
+        }
+    }
+}
 
 // The device address, 0 to 4095.
 pub fn set_address(c: Controller, a: u16) -> Told
     ensures { λ r. ⌜ r ≡ told (address a) c ⌝ }
 {
-    let out = LAST_ADDRESS < a;
-    if out {
-        return Told {
-            refusal: RANGE,
-            controller: c,
-        };
-    }
     let mut e = c.device;
     e.address = a;
     let mut d = c;
     d.device = e;
-    Told {
-        refusal: 0,
-        controller: d,
-    }
+    tell_if(LAST_ADDRESS < a, c, d)
 }
 
 // The status word that a poll of our address is answered with.
@@ -64,21 +69,11 @@ fn is_reply_time(t: u16) -> bool
 pub fn set_reply_time(c: Controller, t: u16) -> Told
     ensures { λ r. ⌜ r ≡ told (replyTime t) c ⌝ }
 {
-    let out = !is_reply_time(t);
-    if out {
-        return Told {
-            refusal: RANGE,
-            controller: c,
-        };
-    }
     let mut e = c.times;
     e.chosen = t;
     let mut d = c;
     d.times = e;
-    Told {
-        refusal: 0,
-        controller: d,
-    }
+    tell_if(!is_reply_time(t), c, d)
 }
 
 // Single line mode.

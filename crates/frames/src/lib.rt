@@ -4,8 +4,10 @@
 // Promised for all inputs: a hearing is in range, a reply has a size and a frame is judged as specs/Hearing.antt, specs/Size.antt and
 // specs/Judge.antt define. Nothing is asked of the caller: a hearing with more words or check bytes than it can hold is out of range,
 // and unsound where it is judged all the same.
+use choice::both;
+use choice::either;
 ghost use mathlib.Core.Path.{_≡_};
-ghost use mathlib.Core.Bool.{true, _&&_, _||_};
+ghost use mathlib.Core.Bool.{true, _||_};
 ghost use lib.Dec.{eqb, leb};
 ghost use Prim.Native.Nat.{_≤_};
 ghost use Rattle.frames.specs.Hearing.{inRange, marked};
@@ -75,18 +77,6 @@ fn is_marked(h: Hearing) -> bool
     ensures { λ r. ⌜ r ≡ marked h ⌝ }
 {
     either(either(h.sqe, h.violation), h.alo)
-}
-
-fn either(a: bool, b: bool) -> bool
-    ensures { λ r. ⌜ r ≡ (a || b) ⌝ }
-{
-    if a { true } else { b }
-}
-
-fn both(a: bool, b: bool) -> bool
-    ensures { λ r. ⌜ r ≡ (a && b) ⌝ }
-{
-    if a { b } else { false }
 }
 
 // Block k is right: of `count` blocks there is no such, or the byte that was given is the computed one.

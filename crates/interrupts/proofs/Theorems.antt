@@ -7,8 +7,10 @@ use mathlib.Core.Option.{Option, none, some}
 use Prim.Native.Nat.{ℕ}
 use Rattle.interrupts.specs.declared.Group.{Group}
 use Rattle.interrupts.specs.Names.{used1}
-use Rattle.interrupts.specs.Group.{group, fresh, settled, raised, statusRead, bit, highest, vectorOf, without, vectorRead, statusWritten, released, pendingWritten, maskWritten}
-use Rattle.interrupts.specs.Shape.{Call, raise, writeStatus, writePending, writeMask, readStatus, readVector, writeVector, after, run, Within, Shaped, Clear, among, Kept, LetThrough, Vector, nothing, number}
+use Rattle.interrupts.specs.Group.{group, fresh, settled, raised, statusRead, bit, highest, vectorOf, without, vectorRead}
+use Rattle.interrupts.specs.Group.{statusWritten, released, pendingWritten, maskWritten}
+use Rattle.interrupts.specs.Shape.{Call, raise, writeStatus, writePending, writeMask, readStatus, readVector, writeVector, after}
+use Rattle.interrupts.specs.Shape.{run, Within, Shaped, Clear, among, Kept, LetThrough, Vector, nothing, number}
 use Rattle.interrupts.proofs.Bits.{bit-and, bit-or, bit-off, within-none, within-used, within-part, within-join}
 use Rattle.interrupts.proofs.Highest.{Found, found}
 

@@ -9,7 +9,8 @@ pub mod names;
 ghost use mathlib.Core.Path.{_≡_};
 ghost use mathlib.Core.Option.{some};
 ghost use Prim.Native.Nat.{_<_};
-ghost use Rattle.interrupts.specs.Group.{fresh, settled, raised, statusRead, vectorRead, highest, statusWritten, released, pendingWritten, maskWritten, active};
+ghost use Rattle.interrupts.specs.Group.{fresh, settled, raised, statusRead, vectorRead, highest, statusWritten, released};
+ghost use Rattle.interrupts.specs.Group.{pendingWritten, maskWritten, active};
 ghost use Rattle.interrupts.specs.Names.{dataTransfer};
 
 // `used` has a 1 for each bit that the group has; the others stay zero in the three words.

@@ -20,7 +20,8 @@ use Rattle.frames.specs.Size.{expectedOf}
 use Rattle.frames.specs.Judge.{countsRight, verdict, judged, judgedFor, judgedSlave}
 use Rattle.frames.proofs.Sizes.{longest}
 use Rattle.model.specs.Layout.{Areas, entry, portAt}
-use Rattle.model.specs.Ports.{codeOf, addressOf, hasPorts, wordsIn, sizeOf, wellFormed, seek, View, viewOf, view, fill, opened, closed}
+use Rattle.model.specs.Ports.{codeOf, addressOf, hasPorts, wordsIn, sizeOf, wellFormed, seek, View, viewOf, view, fill, opened}
+use Rattle.model.specs.Ports.{closed}
 use Rattle.model.specs.Shape.{At, Valid, nothing, filling, marking, opening, closing}
 use Rattle.model.specs.Event.{World, openFor, portFor, ifSink, sinkFor, taken}
 use Rattle.model.specs.Calls.{openOut, openPort, closePort, writePort, needed, refusal}
@@ -71,7 +72,8 @@ open-range a p code i e =
       interrupt = ltb-false 7 i (r1 .1);
     }
 
-pub valid-open : (a p code : ℕ) (sink : Bool) (i : ℕ) (s : World) → refusal (openPort a p code sink i) s ≡ 0 → Valid (s .areas) (opened a p code sink i)
+pub valid-open : (a p code : ℕ) (sink : Bool) (i : ℕ) (s : World) → refusal (openPort a p code sink i) s ≡ 0
+    → Valid (s .areas) (opened a p code sink i)
 unfolding needed
 valid-open a p code sink i s e =
     let t = accepted (openPort a p code sink i) s e in
@@ -96,7 +98,8 @@ pub found-close : (a : ℕ) (s : World) → refusal (closePort a) s ≡ 0 → vi
 unfolding needed
 found-close a s e = let t = accepted (closePort a) s e in finds (s .areas) a (t .1 .1 .0) (t .1 .1 .1 .0) (t .1 .1 .1 .1 .1 .0)
 
-pub found-write : (a : ℕ) (ws : List ℕ) (s : World) → refusal (writePort a ws) s ≡ 0 → view (s .areas) a ≡ some (viewOf (s .areas) (entry (s .areas) a))
+pub found-write : (a : ℕ) (ws : List ℕ) (s : World) → refusal (writePort a ws) s ≡ 0
+    → view (s .areas) a ≡ some (viewOf (s .areas) (entry (s .areas) a))
 unfolding needed
 found-write a ws s e = let t = accepted (writePort a ws) s e in finds (s .areas) a (t .1 .1 .0) (t .1 .1 .1 .0) (t .1 .1 .1 .1 .1 .0)
 
@@ -174,7 +177,8 @@ sound-size code h l e = go (expectedOf code) refl e
     go NoReply ex ej = let z : _≡_ {A = ℕ} 0 1 = cc in omega arith
 
 -- what a judged slave frame does to the areas is valid
-pub valid-taken : (m : Areas) (w : ℕ) (h : Hearing) (j : Judgement) → length (h .words) ≡ 16 → judgedSlave (codeOf w) h ≡ j → Valid m (taken (sinkFor m w) j h)
+pub valid-taken : (m : Areas) (w : ℕ) (h : Hearing) (j : Judgement) → length (h .words) ≡ 16 → judgedSlave (codeOf w) h ≡ j
+    → Valid m (taken (sinkFor m w) j h)
 valid-taken m w h j l e = go (sinkFor m w) refl j e
   where
     go : (o : Option View) → sinkFor m w ≡ o → (j : Judgement) → judgedSlave (codeOf w) h ≡ j → Valid m (taken o j h)

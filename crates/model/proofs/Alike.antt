@@ -11,7 +11,8 @@ use Rattle.model.specs.Layout.{Areas, areasFit, entry, portAt, flagsOf}
 use Rattle.model.specs.Ports.{addressOf, wellFormed, View, viewOf, view}
 use Rattle.model.specs.Shape.{Shape, Leads}
 use Rattle.model.specs.Event.{World}
-use Rattle.model.specs.Calls.{Call, hear, quiet, openPort, closePort, writePort, readPort, setting, needed, entryAbove, illFormed, tests, refusal}
+use Rattle.model.specs.Calls.{Call, hear, quiet, openPort, closePort, writePort, readPort, setting, needed, entryAbove, illFormed}
+use Rattle.model.specs.Calls.{tests, refusal}
 use Rattle.model.proofs.Formed.{formed-used}
 use Rattle.model.proofs.Refused.{Silent, accepted, accepts}
 use Rattle.model.proofs.Accepted.{neither, open-range, open-at}
@@ -114,16 +115,20 @@ module _ (s u : World) (k : Same s u) where
 
   silent-same : (c : Call) → Silent (tests c s) → Silent (tests c u)
   unfolding needed
-  silent-same (hear a b) t = (fits, (t .1 .0, (no-above N shape (needed (hear a b) u), (refl, (refl, (no-ill N shape (needed (hear a b) u), (refl, (refl, tt))))))))
-  silent-same (quiet n) t = (fits, (t .1 .0, (no-above N shape (needed (quiet n) u), (refl, (refl, (no-ill N shape (needed (quiet n) u), (refl, (refl, tt))))))))
+  silent-same (hear a b) t =
+      (fits, (t .1 .0, (no-above N shape (needed (hear a b) u), (refl, (refl, (no-ill N shape (needed (hear a b) u), (refl, (refl, tt))))))))
+  silent-same (quiet n) t =
+      (fits, (t .1 .0, (no-above N shape (needed (quiet n) u), (refl, (refl, (no-ill N shape (needed (quiet n) u), (refl, (refl, tt))))))))
   silent-same (openPort a p code sink i) t =
       let r = open-range a p code i (t .1 .0) in
       (fits, (t .1 .0, (no-above N shape (some a), (refl, (free-same a p (r .some-port) (r .port) (t .1 .1 .1 .1 .0), (refl, (refl, (refl, tt))))))))
-  silent-same (closePort a) t = (fits, (t .1 .0, (no-above N shape (some a), (port a (t .1 .1 .1 .0), (refl, (no-ill N shape (some a), (refl, (refl, tt))))))))
+  silent-same (closePort a) t =
+      (fits, (t .1 .0, (no-above N shape (some a), (port a (t .1 .1 .1 .0), (refl, (no-ill N shape (some a), (refl, (refl, tt))))))))
   silent-same (writePort a ws) t =
       let there = t .1 .1 .1 .0 in
       (fits, (t .1 .0, (no-above N shape (some a), (port a there, (refl, (no-ill N shape (some a), (sym (side-same a there) ∙ t .1 .1 .1 .1 .1 .1 .0, (rw (word-same a there) at (t .1 .1 .1 .1 .1 .1 .1 .0), tt))))))))
-  silent-same (readPort a) t = (fits, (t .1 .0, (no-above N shape (some a), (port a (t .1 .1 .1 .0), (refl, (no-ill N shape (some a), (refl, (refl, tt))))))))
+  silent-same (readPort a) t =
+      (fits, (t .1 .0, (no-above N shape (some a), (port a (t .1 .1 .1 .0), (refl, (no-ill N shape (some a), (refl, (refl, tt))))))))
   silent-same (setting t) h = (refl, (h .1 .0, (refl, (refl, (refl, (refl, (refl, (refl, tt))))))))
 
   -- what one of two alike worlds accepts the other accepts

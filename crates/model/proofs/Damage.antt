@@ -26,9 +26,11 @@ use Rattle.model.specs.declared.Heard.the-variants.{Nothing, Unsound, Ma
 use Rattle.model.specs.Layout.{Areas, portAt, wordsAt, withWords, flagsOf}
 use Rattle.model.specs.Ports.{codeOf, hasPorts, View, view, Effect, untouched, mark, faulty, markedWords, apply}
 use Rattle.model.specs.Shape.{Shape, Valid, marking, viewAfter}
-use Rattle.model.specs.Event.{World, asHeard, asMaster, heard, heardBy, sinkFor, taken, effectOf, answerTo, answerOf, exchangeAfter, hearController, hearEffect, hearAnswer}
+use Rattle.model.specs.Event.{World, asHeard, asMaster, heard, heardBy, sinkFor, taken, effectOf, answerTo, answerOf, exchangeAfter}
+use Rattle.model.specs.Event.{hearController, hearEffect, hearAnswer}
 use Rattle.model.specs.Quiet.{times, due, missed, effectLater, ticks, tick, tickEffect, tickController}
-use Rattle.model.specs.Calls.{Call, hear, quiet, openPort, closePort, writePort, readPort, setting, needed, refusal, effect, step, answer}
+use Rattle.model.specs.Calls.{Call, hear, quiet, openPort, closePort, writePort, readPort, setting, needed, refusal, effect, step}
+use Rattle.model.specs.Calls.{answer}
 use Rattle.model.specs.Past.{after, Typed, Accepted, onTrusted, firstWord, isSound, awaited}
 use Rattle.model.specs.Damage.{harmless, Damaged, Damage, AllAlike, SoundMaster, Gentle, still, marks, OnlyStatus}
 use Rattle.model.proofs.PortWords.{words-same, words-other}
@@ -55,7 +57,8 @@ gentle-late m (some w) = go (sinkFor m w)
     go (some v) = marks
 
 -- a harmless hearing changes status bits alone
-gentle-heard : (m : Areas) (t : Times) (h : Hearing) (k : Kind) (x : Exchange) → Live x t → harmless k (waitNow x t 0) h ≡ true → Gentle (effectOf m (asHeard k x h) h)
+gentle-heard : (m : Areas) (t : Times) (h : Hearing) (k : Kind) (x : Exchange) → Live x t → harmless k (waitNow x t 0) h ≡ true
+    → Gentle (effectOf m (asHeard k x h) h)
 gentle-heard m t h Silence x l e = still
 gentle-heard m t h Noise x l e = still
 gentle-heard m t h MasterFrame x l e = go (judgedMaster h)
@@ -98,7 +101,8 @@ only-trans l m n f g =
       ports = λ p. join (f .ports p) (g .ports p);
     }
   where
-    join : {a b c : Words} → (b ≡ a) ⊎ ((x : Faults) × (b ≡ markedWords a x)) → (c ≡ b) ⊎ ((x : Faults) × (c ≡ markedWords b x)) → (c ≡ a) ⊎ ((x : Faults) × (c ≡ markedWords a x))
+    join : {a b c : Words} → (b ≡ a) ⊎ ((x : Faults) × (b ≡ markedWords a x)) → (c ≡ b) ⊎ ((x : Faults) × (c ≡ markedWords b x))
+        → (c ≡ a) ⊎ ((x : Faults) × (c ≡ markedWords a x))
     join (inl p) (inl q) = inl (q ∙ p)
     join (inl p) (inr q) = inr (q .0, q .1 ∙ ap (λ (w : Words). markedWords w (q .0)) p)
     join (inr p) (inl q) = inr (p .0, q ∙ p .1)
@@ -109,8 +113,11 @@ unfolding apply
 gentle-only untouched m s v still = only-same m
 gentle-only (mark p x) m s (marking at) marks = record { index = refl; page0 = refl; page1 = refl; ports = λ q. by q (ℕ-discrete q p) }
   where
-    by : (q : ℕ) → Dec (q ≡ p) → (wordsAt (withWords (m .ports) p (markedWords (portAt m p) x)) q ≡ portAt m q) ⊎ ((y : Faults) × (wordsAt (withWords (m .ports) p (markedWords (portAt m p) x)) q ≡ markedWords (portAt m q) y))
-    by q (yes e) = inr (x, rw e (words-same (m .ports) p (markedWords (portAt m p) x) (omega (arith, at-here at .small, lengths m (s .fits) .ports))))
+    by : (q : ℕ) → Dec (q ≡ p)
+        → (wordsAt (withWords (m .ports) p (markedWords (portAt m p) x)) q ≡ portAt m q)
+        ⊎ ((y : Faults) × (wordsAt (withWords (m .ports) p (markedWords (portAt m p) x)) q ≡ markedWords (portAt m q) y))
+    by q (yes e) =
+        inr (x, rw e (words-same (m .ports) p (markedWords (portAt m p) x) (omega (arith, at-here at .small, lengths m (s .fits) .ports))))
     by q (no n) = inl (words-other (m .ports) p q (markedWords (portAt m p) x) n)
 
 gentle-alike : (e : Effect) (m : Areas) → Shape m → Valid m e → Gentle e → Alike (apply e m) m
@@ -141,7 +148,8 @@ kept-tick s h =
 
 kept-ticks : (n : ℕ) (s : World) → Shape (s .areas) → Kept s (ticks n s)
 unfolding ticks
-kept-ticks zero s h = record { areas = record { shape = h; shape′ = h; views = λ a. refl }; only = only-same (s .areas); chosen = refl; device = refl }
+kept-ticks zero s h =
+    record { areas = record { shape = h; shape′ = h; views = λ a. refl }; only = only-same (s .areas); chosen = refl; device = refl }
 kept-ticks (suc n) s h = let k = kept-tick s h in kept-trans s (tick s) (ticks n (tick s)) k (kept-ticks n (tick s) (k .areas .shape))
 
 kept-hear : (past : List Call) (a b : Hearing) → Typed (hear a b) → ToldBy past (after past) → Damaged past (hear a b)
@@ -152,7 +160,8 @@ kept-hear past a b ty h d =
     let c = s .controller in
     let k = onTrusted past a b in
     let l : length (k .words) ≡ 16 = one-of (c .lines .laa) (λ (y : Hearing). length (y .words) ≡ 16) (ty .0) (ty .1) in
-    let f : harmless (k .kind) (awaited past 0) k ≡ true = one-of (c .lines .laa) (λ (y : Hearing). harmless (y .kind) (awaited past 0) y ≡ true) (d .0) (d .1) in
+    let f : harmless (k .kind) (awaited past 0) k ≡ true =
+    one-of (c .lines .laa) (λ (y : Hearing). harmless (y .kind) (awaited past 0) y ≡ true) (d .0) (d .1) in
     let v = valid-heard (s .areas) k l (k .kind) (c .exchange) in
     let g = gentle-heard (s .areas) (c .times) k (k .kind) (c .exchange) (h .holds .live) (rw (h .holds .waits 0) f) in
     record {
@@ -163,14 +172,17 @@ kept-hear past a b ty h d =
     }
 
 -- During a stretch of damage only status bits change in the areas, and no address shows anything else.
-pub kept-stretch : (before stretch : List Call) → Accepted (stretch ++ before) → Damage before stretch → Kept (after before) (after (stretch ++ before))
+pub kept-stretch : (before stretch : List Call) → Accepted (stretch ++ before) → Damage before stretch
+    → Kept (after before) (after (stretch ++ before))
 unfolding after step
 kept-stretch before [] acc d = let s = told before acc .holds .shape in
     record { areas = record { shape = s; shape′ = s; views = λ a. refl }; only = only-same _; chosen = refl; device = refl }
 kept-stretch before (hear a b ∷ more) acc d =
-    kept-trans _ _ _ (kept-stretch before more (acc .2) (d .1)) (kept-hear (more ++ before) a b (acc .0) (told (more ++ before) (acc .2)) (d .0))
+    kept-trans _ _ _ (kept-stretch before more (acc .2) (d .1))
+    (kept-hear (more ++ before) a b (acc .0) (told (more ++ before) (acc .2)) (d .0))
 kept-stretch before (quiet n ∷ more) acc d =
-    kept-trans _ _ _ (kept-stretch before more (acc .2) (d .1)) (kept-ticks n (after (more ++ before)) (told (more ++ before) (acc .2) .holds .shape))
+    kept-trans _ _ _ (kept-stretch before more (acc .2) (d .1))
+    (kept-ticks n (after (more ++ before)) (told (more ++ before) (acc .2) .holds .shape))
 kept-stretch before (openPort a p code sink i ∷ more) acc d = absurd (d .0)
 kept-stretch before (closePort a ∷ more) acc d = absurd (d .0)
 kept-stretch before (writePort a ws ∷ more) acc d = absurd (d .0)
@@ -186,10 +198,17 @@ heard-master x m e = ap (λ (k : Kind). asHeard k e x) (m .kind) ∙ ap (λ (j :
 same-master : (u s : World) → Kept u s → (x : Hearing) → SoundMaster x → Same (step (hear x x) s) (step (hear x x) u)
 unfolding step effect hearController hearEffect heardBy heard apply
 same-master u s k x m =
-    rw (either-line (s .controller .lines) x, either-line (u .controller .lines) x, heard-master x m (s .controller .exchange), heard-master x m (u .controller .exchange))
+    rw (
+      either-line (s .controller .lines) x,
+      either-line (u .controller .lines) x,
+      heard-master x m (s .controller .exchange),
+      heard-master x m (u .controller .exchange),
+    )
     (record {
       areas = k .areas;
-      exchange = same-exchange (s .areas) (u .areas) (k .areas) (s .controller .device) Idle (Master (firstWord x)) ∙ ap (λ (d : Device). exchangeAfter d (u .areas) Idle (Master (firstWord x))) (k .device);
+      exchange =
+          same-exchange (s .areas) (u .areas) (k .areas) (s .controller .device) Idle (Master (firstWord x))
+          ∙ ap (λ (d : Device). exchangeAfter d (u .areas) Idle (Master (firstWord x))) (k .device);
       times = ap (λ (n : ℕ). times 0 0 n n) (k .chosen);
       device = k .device;
     })
@@ -200,7 +219,22 @@ unfolding needed
 master-accepted u s k x e =
     let t = accepted (hear x x) s e in
     let f = k .areas .shape′ in
-    accepts (hear x x) u (rw (f .fits), (t .1 .0, (no-above (u .areas) f (needed (hear x x) u), (refl, (refl, (no-ill (u .areas) f (needed (hear x x) u), (refl, (refl, tt))))))))
+    accepts (hear x x) u (
+      rw (f .fits),
+      (
+        t .1 .0,
+        (
+          no-above (u .areas) f (needed (hear x x) u),
+          (
+            refl,
+            (
+              refl,
+              (no-ill (u .areas) f (needed (hear x x) u), (refl, (refl, tt))),
+            ),
+          ),
+        ),
+      ),
+    )
 
 later-same : (later p q : List Call) → AllAlike later → Accepted (later ++ p) → Accepted q → Same (after p) (after q)
     → Accepted (later ++ q) × Same (after (later ++ p)) (after (later ++ q))
@@ -255,12 +289,18 @@ damage-unseen before stretch later x m l d acc =
     (r .0, unseen-same _ _ (r .1))
 
 -- The master frame that ends the stretch gets the same data reply too.
-pub damage-first-reply : (before stretch : List Call) (x : Hearing) → SoundMaster x → hasPorts (codeOf (firstWord x)) ≡ true → Damage before stretch
+pub damage-first-reply : (before stretch : List Call) (x : Hearing) → SoundMaster x → hasPorts (codeOf (firstWord x)) ≡ true
+    → Damage before stretch
     → Accepted (stretch ++ before) → answer (hear x x) (after (stretch ++ before)) ≡ answer (hear x x) (after before)
 unfolding answer hearAnswer heardBy heard
 damage-first-reply before stretch x m p d acc =
     let s = after (stretch ++ before) in
     let u = after before in
     let k = kept-stretch before stretch acc d in
-    rw (either-line (s .controller .lines) x, either-line (u .controller .lines) x, heard-master x m (s .controller .exchange), heard-master x m (u .controller .exchange))
+    rw (
+      either-line (s .controller .lines) x,
+      either-line (u .controller .lines) x,
+      heard-master x m (s .controller .exchange),
+      heard-master x m (u .controller .exchange),
+    )
     (answer-same _ _ _ _ (k .areas) (k .device) (Master (firstWord x)))

@@ -20,11 +20,15 @@ use Rattle.model.specs.declared.Exchange.{Exchange}
 use Rattle.model.specs.declared.Exchange.the-variants.{Idle, Waiting, Done}
 use Rattle.model.specs.Ports.{codeOf, addressOf, hasPorts, View, view}
 use Rattle.model.specs.Shape.{Shape}
-use Rattle.model.specs.Event.{World, asMaster, asHeard, interruptOf, raiseAll, hearController, pollsUs, answerTo, answerOf, sent, heard, heardBy, hearEffect, hearAnswer}
-use Rattle.model.specs.Calls.{Call, hear, quiet, openPort, closePort, writePort, readPort, setting, needed, badArea, outOfRange, noPort, isTaken, badWords, wrongSide, wrongSize, test, firstOf, refusal, effect, step, answer, asked, fetched}
+use Rattle.model.specs.Event.{World, asMaster, asHeard, interruptOf, raiseAll, hearController, pollsUs, answerTo, answerOf, sent}
+use Rattle.model.specs.Event.{heard, heardBy, hearEffect, hearAnswer}
+use Rattle.model.specs.Calls.{Call, hear, quiet, openPort, closePort, writePort, readPort, setting, needed, badArea, outOfRange}
+use Rattle.model.specs.Calls.{noPort, isTaken, badWords, wrongSide, wrongSize, test, firstOf, refusal, effect, step, answer, asked}
+use Rattle.model.specs.Calls.{fetched}
 use Rattle.model.specs.declared.Answer.the-variants.{Never}
 use mathlib.Core.Logic.{_↔_}
-use Rattle.model.specs.Past.{after, Typed, Accepted, onTrusted, firstWord, answers, Opening, openingOf, answersSince, writesSince, lastOf, fillings, viewWith, toldView, sourceTold, statusTold, lastStatus, framesJudged, framesUnsound}
+use Rattle.model.specs.Past.{after, Typed, Accepted, onTrusted, firstWord, answers, Opening, openingOf, answersSince, writesSince}
+use Rattle.model.specs.Past.{lastOf, fillings, viewWith, toldView, sourceTold, statusTold, lastStatus, framesJudged, framesUnsound}
 use Rattle.model.specs.Damage.{SoundMaster}
 use Rattle.model.proofs.Taken.{takenIf, Took, taken-exactly, took-heard, taken-raises}
 use Rattle.model.proofs.Invariant.{one-of}
@@ -52,7 +56,8 @@ module _ (past : List Call) (run : Accepted past) where
   module _ (a : ℕ) (o : Opening) (stands : openingOf past a ≡ some o) (v : View) (seen : view (now .areas) a ≡ some v) where
     known : v ≡ viewWith o (lastOf (fillings past a o)) (length (fillings past a o) % 65536)
     known =
-        let e : some v ≡ some (viewWith o (lastOf (fillings past a o)) (length (fillings past a o) % 65536)) = sym seen ∙ shows-told a ∙ ap (toldView past a) stands in
+        let e : some v ≡ some (viewWith o (lastOf (fillings past a o)) (length (fillings past a o) % 65536)) =
+        sym seen ∙ shows-told a ∙ ap (toldView past a) stands in
         cc
 
     -- Each open sink port shows the words of the last sound slave frame that answered its master frame since it was opened, or that
@@ -128,7 +133,8 @@ module _ (past : List Call) (run : Accepted past) where
         rw (h .waits 0) at (took-heard (now .areas) heardNow (heardNow .kind) (c .exchange) (c .times) (h .live))
 
     -- So what every address shows after the event: the words of the frame where it is taken, and else what it showed before.
-    pub frame-seen : Typed (hear a b) → (e : ℕ) → view (step (hear a b) now .areas) e ≡ takenIf (answers past a b) (wordsOf heardNow) (view (now .areas) e)
+    pub frame-seen : Typed (hear a b) → (e : ℕ)
+        → view (step (hear a b) now .areas) e ≡ takenIf (answers past a b) (wordsOf heardNow) (view (now .areas) e)
     unfolding answers step effect hearEffect heardBy heard
     frame-seen ty e =
         let h = told past run .holds in
@@ -151,12 +157,14 @@ module _ (past : List Call) (run : Accepted past) where
     unfolding answer hearAnswer heardBy heard
     no-other-reply n = by (heardNow .kind) refl (now .controller .exchange)
       where
-        by : (k : Kind) → heardNow .kind ≡ k → (x : Exchange) → answerOf (now .controller .device) (now .areas) (asHeard k x heardNow) ≡ none
+        by : (k : Kind) → heardNow .kind ≡ k → (x : Exchange)
+            → answerOf (now .controller .device) (now .areas) (asHeard k x heardNow) ≡ none
         by Silence e x = refl
         by Noise e x = refl
         by MasterFrame e x = judged (judgedMaster heardNow) refl
           where
-            judged : (j : Judgement) → judgedMaster heardNow ≡ j → answerOf (now .controller .device) (now .areas) (asMaster j heardNow) ≡ none
+            judged : (j : Judgement) → judgedMaster heardNow ≡ j
+                → answerOf (now .controller .device) (now .areas) (asMaster j heardNow) ≡ none
             judged Sound ej = absurd (n (record { kind = e; sound = ej }))
             judged (Bad crc) ej = refl
         by SlaveFrame e Idle = refl
@@ -178,5 +186,7 @@ module _ (past : List Call) (run : Accepted past) where
       data-reply p = answered ∙ data-told past (now .controller .device) (now .areas) shows-told (firstWord heardNow) p
 
       -- A status reply holds the status word last set; without one there is none.
-      pub status-reply : pollsUs (now .controller .device) (firstWord heardNow) ≡ true → answer (hear a b) now ≡ statusTold (lastStatus past)
-      status-reply p = answered ∙ status-told past (now .controller .device) (now .areas) shows-told (firstWord heardNow) p (told past run .status)
+      pub status-reply : pollsUs (now .controller .device) (firstWord heardNow) ≡ true
+          → answer (hear a b) now ≡ statusTold (lastStatus past)
+      status-reply p =
+          answered ∙ status-told past (now .controller .device) (now .areas) shows-told (firstWord heardNow) p (told past run .status)

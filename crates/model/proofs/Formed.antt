@@ -14,7 +14,8 @@ use Rattle.model.specs.declared.Words.{Words}
 use Rattle.model.specs.declared.Flags.{Flags}
 use Rattle.model.specs.declared.Faults.{Faults}
 use Rattle.model.specs.Layout.{Areas, stride, areasFit, bitAt, flagsOf, wordOf, zeroBits}
-use Rattle.model.specs.Ports.{codeOf, addressOf, wordsIn, sizeOf, oneSide, wellFormed, noFaults, turned, filledWords, faulty, markedWords, openWords}
+use Rattle.model.specs.Ports.{codeOf, addressOf, wordsIn, sizeOf, oneSide, wellFormed, noFaults, turned, filledWords, faulty}
+use Rattle.model.specs.Ports.{markedWords, openWords}
 use Rattle.model.proofs.Bits.{flags-of-word, zero-bits}
 
 pub and-left : (a b : Bool) → (a && b) ≡ true → a ≡ true

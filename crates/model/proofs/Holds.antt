@@ -77,7 +77,8 @@ ticks-lasting (suc n) s = let h = ticks-lasting n (tick s) in record { chosen = 
 
 pub ticks-hold : (n : ℕ) (W : ℕ → Option ℕ) (S : ℕ → Option View) (s : World) → HoldsAt W S s → HoldsAt (λ q. W (n + q)) S (ticks n s)
 unfolding ticks
-ticks-hold zero W S s h = record { shape = h .shape; views = h .views; waits = λ q. rw zero-add (h .waits q); live = h .live; short = h .short }
+ticks-hold zero W S s h =
+    record { shape = h .shape; views = h .views; waits = λ q. rw zero-add (h .waits q); live = h .live; short = h .short }
 ticks-hold (suc n) W S s h =
     let r = ticks-hold n (λ q. W (1 + q)) S (tick s) (tick-holds W S s h) in
     record { shape = r .shape; views = r .views; waits = λ q. r .waits q ∙ ap W (omega arith); live = r .live; short = r .short }

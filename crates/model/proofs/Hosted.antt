@@ -17,9 +17,11 @@ use Rattle.model.specs.Layout.{Areas, entry}
 use Rattle.model.specs.Ports.{View, viewOf, view, Effect, untouched, fill, opened, closed, apply}
 use Rattle.model.specs.Shape.{Valid, nothing, refilled, refillIf, justOpened, viewAfter}
 use Rattle.model.specs.Quiet.{times}
-use Rattle.model.specs.Host.{freshController, isReplyTime, settingOut, Setting, address, status, replyTime, slm, ls, clearEC, reset, group0, group1, tell}
+use Rattle.model.specs.Host.{freshController, isReplyTime, settingOut, Setting, address, status, replyTime, slm, ls, clearEC, reset}
+use Rattle.model.specs.Host.{group0, group1, tell}
 use Rattle.model.specs.Calls.{Call, quiet, openPort, closePort, writePort, readPort, setting, refusal, effect, step}
-use Rattle.model.specs.Past.{after, isReset, chosenBy, lastSet, chosenIn, awaited, Opening, opening, openingOf, answersSince, writesSince, lastOf, viewWith, toldView, lastStatus, countSince, framesJudged, framesUnsound}
+use Rattle.model.specs.Past.{after, isReset, chosenBy, lastSet, chosenIn, awaited, Opening, opening, openingOf, answersSince}
+use Rattle.model.specs.Past.{writesSince, lastOf, viewWith, toldView, lastStatus, countSince, framesJudged, framesUnsound}
 use Rattle.model.proofs.Views.{distinct}
 use Rattle.model.proofs.Shape.{shape-apply, view-apply}
 use Rattle.model.proofs.Accepted.{valid-open, valid-close, found-write, write-source, valid-write}
@@ -29,7 +31,8 @@ use Rattle.model.proofs.Invariant.{statusNow, Told, ToldBy}
 
 -- ---- calls that fill no port
 
-told-same : (past more : List Call) (a : ℕ) (o : Option Opening) → ((w : ℕ) → answersSince more a w ≡ answersSince past a w) → writesSince more a ≡ writesSince past a
+told-same : (past more : List Call) (a : ℕ) (o : Option Opening) → ((w : ℕ) → answersSince more a w ≡ answersSince past a w)
+    → writesSince more a ≡ writesSince past a
     → toldView past a o ≡ toldView more a o
 told-same past more a none f g = refl
 told-same past more a (some o) f g = rw (f (o .word), g)
@@ -40,7 +43,14 @@ quiet-told past n h =
     let r = ticks-hold n (awaited past) (λ a. toldView past a (openingOf past a)) (after past) (h .holds) in
     let k = ticks-lasting n (after past) in
     record {
-      holds = record { shape = r .shape; views = λ a. r .views a ∙ told-same past (quiet n ∷ past) a (openingOf past a) (λ w. refl) refl; waits = r .waits; live = r .live; short = r .short };
+      holds =
+          record {
+            shape = r .shape;
+            views = λ a. r .views a ∙ told-same past (quiet n ∷ past) a (openingOf past a) (λ w. refl) refl;
+            waits = r .waits;
+            live = r .live;
+            short = r .short;
+          };
       chosen = k .chosen ∙ h .chosen;
       some-time = h .some-time;
       short-time = h .short-time;
@@ -90,11 +100,13 @@ open-view past b p code sink i a = go (eqb b a) refl sink
     go true e false = rw e
     go false e k = told-same past (openPort b p code k i ∷ past) a (openingOf past a) (λ w. rw e) (rw e)
 
-pub open-told : (past : List Call) (b p code : ℕ) (sink : Bool) (i : ℕ) → refusal (openPort b p code sink i) (after past) ≡ 0 → ToldBy past (after past)
+pub open-told : (past : List Call) (b p code : ℕ) (sink : Bool) (i : ℕ) → refusal (openPort b p code sink i) (after past) ≡ 0
+    → ToldBy past (after past)
     → ToldBy (openPort b p code sink i ∷ past) (step (openPort b p code sink i) (after past))
 unfolding step effect awaited chosenIn lastStatus framesJudged framesUnsound lastSet countSince
 open-told past b p code sink i r h =
-    area-told past (openPort b p code sink i) (opened b p code sink i) (λ q. refl) refl refl refl refl (valid-open b p code sink i (after past) r)
+    area-told past (openPort b p code sink i) (opened b p code sink i) (λ q. refl) refl refl refl refl
+    (valid-open b p code sink i (after past) r)
     (λ a. rw (h .holds .views a) (open-view past b p code sink i a)) h
 
 -- ---- closing
@@ -128,7 +140,8 @@ one-address m b a u v eu ev = go (eqb b a) refl
         eq-eqb _ _ (sym (ap (λ (x : View). x .port) w))
     go false e = ne-eqb _ _ (λ p. eqb-false b a e (sym (distinct m a b v u ev eu p)))
 
-write-view : (past : List Call) (b a : ℕ) (ws : List ℕ) (o : Option Opening) → (eqb b a ≡ true → (v : View) → toldView past a o ≡ some v → v .sink ≡ false)
+write-view : (past : List Call) (b a : ℕ) (ws : List ℕ) (o : Option Opening)
+    → (eqb b a ≡ true → (v : View) → toldView past a o ≡ some v → v .sink ≡ false)
     → (p : ℕ) → ((v : View) → toldView past a o ≡ some v → eqb (v .port) p ≡ eqb b a)
     → refillIf p ws (toldView past a o) ≡ toldView (writePort b ws ∷ past) a o
 unfolding answersSince writesSince
@@ -142,7 +155,9 @@ write-view past b a ws (some o) src p one = rw (one _ refl) (go (eqb b a) refl (
     wr = writesSince past a
 
     go : (c : Bool) → eqb b a ≡ c → (k : Bool) → o .sink ≡ k
-        → _≡_ {A = Option View} (some (cond c (refilled ws (viewWith o (lastOf (cond k ss wr)) (length (cond k ss wr) % 65536))) (viewWith o (lastOf (cond k ss wr)) (length (cond k ss wr) % 65536))))
+        → _≡_ {A = Option View}
+        (some (cond c (refilled ws (viewWith o (lastOf (cond k ss wr)) (length (cond k ss wr) % 65536)))
+        (viewWith o (lastOf (cond k ss wr)) (length (cond k ss wr) % 65536))))
         (some (viewWith o (lastOf (cond k ss (cond c (ws ∷ wr) wr))) (length (cond k ss (cond c (ws ∷ wr) wr)) % 65536)))
     go true e true ek = absurd (true≢false (sym ek ∙ src e _ refl))
     go true e false ek = ap (λ (n : ℕ). some (viewWith o (some ws) n)) (omega arith)
@@ -163,7 +178,9 @@ write-told past b ws r h =
     (λ v ev. one-address m b a (viewOf m (entry m b)) v at (h .holds .views a ∙ ev)))) h
   where
     source : (v : View) → some (viewOf (after past .areas) (entry (after past .areas) b)) ≡ some v → v .sink ≡ false
-    source v e = let w : viewOf (after past .areas) (entry (after past .areas) b) ≡ v = cc in sym (ap (λ (x : View). x .sink) w) ∙ write-source b ws (after past) r
+    source v e =
+        let w : viewOf (after past .areas) (entry (after past .areas) b) ≡ v = cc in
+        sym (ap (λ (x : View). x .sink) w) ∙ write-source b ws (after past) r
 
 -- ---- reading, and the host's settings
 

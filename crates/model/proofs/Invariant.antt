@@ -25,11 +25,14 @@ use Rattle.model.specs.declared.Controller.{Controller}
 use Rattle.model.specs.Layout.{Areas}
 use Rattle.model.specs.Ports.{codeOf, View}
 use Rattle.model.specs.Shape.{refilled}
-use Rattle.model.specs.Event.{World, asMaster, asSlave, asHeard, heard, heardBy, isBad, judgedOne, countsAfter, timesAfter, hearController, hearEffect, hearAnswer}
+use Rattle.model.specs.Event.{World, asMaster, asSlave, asHeard, heard, heardBy, isBad, judgedOne, countsAfter, timesAfter}
+use Rattle.model.specs.Event.{hearController, hearEffect, hearAnswer}
 use Rattle.model.specs.Quiet.{times}
 use Rattle.model.specs.Host.{status}
 use Rattle.model.specs.Calls.{Call, hear, effect, step, answer}
-use Rattle.model.specs.Past.{after, Typed, onTrusted, lastSet, chosenIn, awaited, answers, Opening, openingOf, answersSince, writesSince, lastOf, viewWith, toldView, lastStatus, judgedAs, judgement, addJudged, addUnsound, countSince, framesJudged, framesUnsound}
+use Rattle.model.specs.Past.{after, Typed, onTrusted, lastSet, chosenIn, awaited, answers, Opening, openingOf, answersSince}
+use Rattle.model.specs.Past.{writesSince, lastOf, viewWith, toldView, lastStatus, judgedAs, judgement, addJudged, addUnsound}
+use Rattle.model.specs.Past.{countSince, framesJudged, framesUnsound}
 use Rattle.model.proofs.Shape.{shape-apply}
 use Rattle.model.proofs.Waits.{waitNow, Live, waits-now, waits-heard, live-heard}
 use Rattle.model.proofs.Taken.{takenIf, taken-exactly, valid-heard}
@@ -68,7 +71,9 @@ hear-view past x y a (some o) = go (o .sink) (answers past x y (o .word))
     wr = writesSince past a
 
     go : (b c : Bool)
-        → _≡_ {A = Option View} (some (cond (b && c) (refilled ws (viewWith o (lastOf (cond b ss wr)) (length (cond b ss wr) % 65536))) (viewWith o (lastOf (cond b ss wr)) (length (cond b ss wr) % 65536))))
+        → _≡_ {A = Option View}
+        (some (cond (b && c) (refilled ws (viewWith o (lastOf (cond b ss wr)) (length (cond b ss wr) % 65536)))
+        (viewWith o (lastOf (cond b ss wr)) (length (cond b ss wr) % 65536))))
         (some (viewWith o (lastOf (cond b (cond c (ws ∷ ss) ss) wr)) (length (cond b (cond c (ws ∷ ss) ss) wr) % 65536)))
     go true true = ap (λ (n : ℕ). some (viewWith o (some ws) n)) (omega arith)
     go true false = refl
@@ -104,7 +109,8 @@ module _ (n : Counts) (f u : ℕ) (ef : n .fc ≡ f % 65536) (eu : n .ec ≡ min
   counts-heard SlaveFrame x l = by-slave x l
 
 -- the reply time that is adopted is the old one or the one chosen
-short-heard : (t : Times) (h : Hearing) (k : Kind) (x : Exchange) → t .adopted ≤ 128 → t .chosen ≤ 128 → timesAfter t (asHeard k x h) .adopted ≤ 128
+short-heard : (t : Times) (h : Hearing) (k : Kind) (x : Exchange) → t .adopted ≤ 128 → t .chosen ≤ 128
+    → timesAfter t (asHeard k x h) .adopted ≤ 128
 short-heard t h Silence x a c = a
 short-heard t h Noise x a c = a
 short-heard t h MasterFrame x a c = go (judgedMaster h)
@@ -135,7 +141,8 @@ one-of false P p q = q
 abbrev pub ToldBy : List Call → World → Type 0
 ToldBy past s = Told past (s .controller) (s .areas)
 
-pub hear-told : (past : List Call) (a b : Hearing) → Typed (hear a b) → ToldBy past (after past) → ToldBy (hear a b ∷ past) (step (hear a b) (after past))
+pub hear-told : (past : List Call) (a b : Hearing) → Typed (hear a b) → ToldBy past (after past)
+    → ToldBy (hear a b ∷ past) (step (hear a b) (after past))
 unfolding step effect hearController hearEffect heardBy heard answer hearAnswer awaited answers chosenIn lastStatus judgement framesJudged framesUnsound openingOf lastSet countSince
 hear-told past a b ty h =
     let s = after past in
@@ -151,7 +158,9 @@ hear-told past a b ty h =
     record {
       holds = record {
         shape = shape-apply _ (s .areas) (H .shape) (valid-heard (s .areas) k l (k .kind) x);
-        views = λ e. taken-exactly (s .areas) (H .shape) k l (k .kind) x t (H .live) e ∙ rw (H .waits 0, H .views e) (hear-view past a b e (openingOf past e));
+        views =
+            λ e. taken-exactly (s .areas) (H .shape) k l (k .kind) x t (H .live) e
+            ∙ rw (H .waits 0, H .views e) (hear-view past a b e (openingOf past e));
         waits = λ e. waits-heard (c .device) (s .areas) t k (k .kind) x e ∙ rw (H .waits e, h .chosen);
         live = live-heard (c .device) (s .areas) t k (k .kind) x p (H .live);
         short = short-heard t k (k .kind) x (H .short) q;

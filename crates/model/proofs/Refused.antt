@@ -78,7 +78,8 @@ pub refused-only : (c : Call) (s : World) → (refusal c s ≡ 0 → ⊥) → Fi
 unfolding refusal
 refused-only c s h = go (tells (tests c s))
   where
-    go : ((firstOf (tests c s) ≡ 0) × Silent (tests c s)) ⊎ First (tests c s) (firstOf (tests c s)) → First (tests c s) (firstOf (tests c s))
+    go : ((firstOf (tests c s) ≡ 0) × Silent (tests c s)) ⊎ First (tests c s) (firstOf (tests c s))
+        → First (tests c s) (firstOf (tests c s))
     go (inl z) = absurd (h (z .0))
     go (inr f) = f
 

@@ -25,7 +25,8 @@ use Rattle.model.specs.Shape.{Shape}
 use Rattle.model.specs.declared.Device.{Device}
 use Rattle.model.specs.Event.{openFor, portFor, ifSource, sourceFor, pollsUs, ownWords, ifExpected, answerTo, sent}
 use Rattle.model.specs.Calls.{Call}
-use Rattle.model.specs.Past.{Opening, openingOf, writesSince, lastOf, fillings, viewWith, toldView, lastStatus, sourceTold, statusTold}
+use Rattle.model.specs.Past.{Opening, openingOf, writesSince, lastOf, fillings, viewWith, toldView, lastStatus, sourceTold}
+use Rattle.model.specs.Past.{statusTold}
 use Rattle.model.proofs.Accepted.{both-hold, port-open}
 use Rattle.model.proofs.Invariant.{statusNow}
 use Rattle.model.proofs.Stored.{stored-part}
@@ -53,7 +54,17 @@ pub sent-sound : (code n : ℕ) (ws : List ℕ) → expectedOf code ≡ Expects 
 unfolding judgedSlave judged countsRight sent checksRight frameChecks
 sent-sound code n ws e l =
     let short : length ws ≤ 16 = omega (arith, longest code n e) in
-    rw (e, sent-words ws short, eq-eqb (length ws) n l, ap blocks l, eq-eqb (blocks n) (blocks n) refl, sent-right ws 0 refl, sent-right ws 1 refl, sent-right ws 2 refl, sent-right ws 3 refl)
+    rw (
+      e,
+      sent-words ws short,
+      eq-eqb (length ws) n l,
+      ap blocks l,
+      eq-eqb (blocks n) (blocks n) refl,
+      sent-right ws 0 refl,
+      sent-right ws 1 refl,
+      sent-right ws 2 refl,
+      sent-right ws 3 refl,
+    )
 
 -- ---- the words of a port have its size
 
@@ -62,7 +73,8 @@ unfolding partOf
 part-size page p n l h k = length-take-le n (drop (16 * p) page) (omega (arith, length-drop (16 * p) page))
 
 -- The words that an address shows have the size of its F-code.
-pub shown-size : (m : Areas) (a : ℕ) (v : View) → Shape m → view m a ≡ some v → (ws : List ℕ) → v .shows ≡ some ws → length ws ≡ sizeOf (codeOf (v .word))
+pub shown-size : (m : Areas) (a : ℕ) (v : View) → Shape m → view m a ≡ some v → (ws : List ℕ) → v .shows ≡ some ws
+    → length ws ≡ sizeOf (codeOf (v .word))
 unfolding viewOf
 shown-size m a v s e ws q =
     let at = view-at m a v e in
@@ -75,11 +87,14 @@ shown-size m a v s e ws q =
     either false = lengths m (s .fits) .page0
 
     go : (b : Bool) → v .word ≡ portAt m (v .port) .master
-        → cond b (some (partOf (validPage m (flagsOf (portAt m (v .port) .flags))) (v .port) (sizeOf (codeOf (portAt m (v .port) .master))))) none ≡ some ws
+        → cond b
+        (some (partOf (validPage m (flagsOf (portAt m (v .port) .flags))) (v .port) (sizeOf (codeOf (portAt m (v .port) .master))))) none ≡ some ws
         → length (validPage m (flagsOf (portAt m (v .port) .flags))) ≡ 4096 → length ws ≡ sizeOf (codeOf (v .word))
     go true ew es l =
-        let r : partOf (validPage m (flagsOf (portAt m (v .port) .flags))) (v .port) (sizeOf (codeOf (portAt m (v .port) .master))) ≡ ws = cc in
-        ap length (sym r) ∙ part-size _ (v .port) _ l (view-at m a v e .small) (size-small (codeOf (portAt m (v .port) .master))) ∙ ap (λ (w : ℕ). sizeOf (codeOf w)) (sym ew)
+        let r : partOf (validPage m (flagsOf (portAt m (v .port) .flags))) (v .port) (sizeOf (codeOf (portAt m (v .port) .master))) ≡ ws =
+        cc in
+        ap length (sym r) ∙ part-size _ (v .port) _ l (view-at m a v e .small) (size-small (codeOf (portAt m (v .port) .master)))
+        ∙ ap (λ (w : ℕ). sizeOf (codeOf w)) (sym ew)
     go false ew es l = absurd (silent es)
 
 -- ---- what is answered to a sound master frame
@@ -114,21 +129,24 @@ source-size m w s ws e = go (portFor m w) refl e
             shown-size m (addressOf w) v s (at .0) ws q ∙ ap (λ (x : ℕ). sizeOf (codeOf x)) (at .1)
 
 -- What is answered to a sound master frame is a sound slave frame for its code.
-pub answer-sound : (d : Device) (m : Areas) (w : ℕ) → Shape m → (ws : List ℕ) → answerTo d m w ≡ some ws → judgedSlave (codeOf w) (sent ws) ≡ Sound
+pub answer-sound : (d : Device) (m : Areas) (w : ℕ) → Shape m → (ws : List ℕ) → answerTo d m w ≡ some ws
+    → judgedSlave (codeOf w) (sent ws) ≡ Sound
 unfolding answerTo sizeOf
 answer-sound d m w s ws e = go (expectedOf (codeOf w)) refl (sourceFor m w) refl e
   where
     sized : (n : ℕ) → expectedOf (codeOf w) ≡ Expects n → sizeOf (codeOf w) ≡ n
     sized n ex = rw ex
 
-    go : (x : Expected) → expectedOf (codeOf w) ≡ x → (o : Option (List ℕ)) → sourceFor m w ≡ o → ifExpected x (ownWords d w o) ≡ some ws → judgedSlave (codeOf w) (sent ws) ≡ Sound
+    go : (x : Expected) → expectedOf (codeOf w) ≡ x → (o : Option (List ℕ)) → sourceFor m w ≡ o → ifExpected x (ownWords d w o) ≡ some ws
+        → judgedSlave (codeOf w) (sent ws) ≡ Sound
     go NoReply ex o eo ei = absurd (silent ei)
     go (Expects n) ex (some r) eo ei =
         let q : r ≡ ws = cc in
         sent-sound (codeOf w) n ws ex (source-size m w s ws (eo ∙ ei) ∙ sized n ex)
     go (Expects n) ex none eo ei = status (eqb (codeOf w) 15) refl (eqb (addressOf w) (d .address)) (d .set) ei
       where
-        status : (b : Bool) → eqb (codeOf w) 15 ≡ b → (c k : Bool) → cond (b && c && k) (some (d .status ∷ [])) none ≡ some ws → judgedSlave (codeOf w) (sent ws) ≡ Sound
+        status : (b : Bool) → eqb (codeOf w) 15 ≡ b → (c k : Bool) → cond (b && c && k) (some (d .status ∷ [])) none ≡ some ws
+            → judgedSlave (codeOf w) (sent ws) ≡ Sound
         status true eb true true q =
             let r : d .status ∷ [] ≡ ws = cc in
             sent-sound (codeOf w) 1 ws (ap expectedOf (eqb-true _ _ eb) ∙ poll-expects) (ap length (sym r))
@@ -150,7 +168,9 @@ module _ (past : List Call) (d : Device) (m : Areas) (views : (a : ℕ) → view
           wr : List (List ℕ)
           wr = writesSince past (addressOf w)
 
-          by : (b c : Bool) → o .sink ≡ c → ifSource (cond b (some (viewWith o (lastOf (fillings past (addressOf w) o)) (length (fillings past (addressOf w) o) % 65536))) none) ≡ cond (b && not c) (lastOf wr) none
+          by : (b c : Bool) → o .sink ≡ c
+              → ifSource (cond b (some (viewWith o (lastOf (fillings past (addressOf w) o)) (length (fillings past (addressOf w) o) % 65536))) none)
+              ≡ cond (b && not c) (lastOf wr) none
           by true true e = rw e
           by true false e = rw e
           by false c e = refl

@@ -24,7 +24,8 @@ use Rattle.model.specs.Damage.{HeardAlike}
 use Rattle.model.proofs.Accepted.{valid-open, valid-close, valid-write}
 use Rattle.model.proofs.Taken.{valid-heard}
 use Rattle.model.proofs.Holds.{later-valid}
-use Rattle.model.specs.Event.{hearController, hearEffect, world, World, portFor, answerTo, exchangeFor, exchangeAfter, timesAfter, effectOf, heard, heardBy, asHeard}
+use Rattle.model.specs.Event.{hearController, hearEffect, world, World, portFor, answerTo, exchangeFor, exchangeAfter, timesAfter}
+use Rattle.model.specs.Event.{effectOf, heard, heardBy, asHeard}
 use Rattle.model.specs.Quiet.{times, expired, due, effectLater, exchangeLater, timesLater, tickEffect, tickController, tick, ticks}
 use Rattle.model.proofs.Views.{view-at, none-entry}
 use Rattle.model.proofs.Shape.{shape-apply, view-apply}
@@ -134,7 +135,9 @@ module _ (s u : World) (k : Same s u) where
   unfolding tick tickController tickEffect
   same-tick =
       record {
-        areas = alike-effects M N (k .areas) (same-missed M N (k .areas) (due s) ∙ ap (effectLater N) same-due) (later-valid M (due s)) (later-valid N (due u));
+        areas =
+            alike-effects M N (k .areas) (same-missed M N (k .areas) (due s) ∙ ap (effectLater N) same-due) (later-valid M (due s))
+            (later-valid N (due u));
         exchange = ap₂ exchangeLater (k .exchange) same-due;
         times = ap timesLater (k .times);
         device = k .device;
@@ -154,10 +157,27 @@ module _ (s u : World) (k : Same s u) where
 
   same-set : (t : Setting) → Same (step (setting t) s) (step (setting t) u)
   unfolding step tell
-  same-set (address a) = record { areas = k .areas; exchange = k .exchange; times = k .times; device = ap (λ (d : Device). device a (d .set) (d .status)) (k .device) }
-  same-set (status w) = record { areas = k .areas; exchange = k .exchange; times = k .times; device = ap (λ (d : Device). device (d .address) true w) (k .device) }
+  same-set (address a) =
+      record {
+        areas = k .areas;
+        exchange = k .exchange;
+        times = k .times;
+        device = ap (λ (d : Device). device a (d .set) (d .status)) (k .device);
+      }
+  same-set (status w) =
+      record {
+        areas = k .areas;
+        exchange = k .exchange;
+        times = k .times;
+        device = ap (λ (d : Device). device (d .address) true w) (k .device);
+      }
   same-set (replyTime t) =
-      record { areas = k .areas; exchange = k .exchange; times = ap (λ (x : Times). times (x .since) (x .line) t (x .adopted)) (k .times); device = k .device }
+      record {
+        areas = k .areas;
+        exchange = k .exchange;
+        times = ap (λ (x : Times). times (x .since) (x .line) t (x .adopted)) (k .times);
+        device = k .device;
+      }
   same-set (slm b) = record { areas = k .areas; exchange = k .exchange; times = k .times; device = k .device }
   same-set (ls b) = record { areas = k .areas; exchange = k .exchange; times = k .times; device = k .device }
   same-set clearEC = record { areas = k .areas; exchange = k .exchange; times = k .times; device = k .device }
@@ -170,8 +190,11 @@ module _ (s u : World) (k : Same s u) where
   unfolding step effect
   same-step (hear a b) t l p q = subst (λ (y : Hearing). Same (step (hear a y) s) (step (hear a y) u)) l (same-hear s u k a (t .0))
   same-step (quiet n) t l p q = same-ticks n s u k
-  same-step (openPort a p code sink i) t l r q = same-area (openPort a p code sink i) refl (valid-open a p code sink i s r) (valid-open a p code sink i u q)
-  same-step (closePort a) t l p q = same-area (closePort a) (ap (closed a) (same-entry _ _ (k .areas) a)) (valid-close a s p) (valid-close a u q)
-  same-step (writePort a ws) t l p q = same-area (writePort a ws) (ap (λ (n : ℕ). fill n ws) (same-entry _ _ (k .areas) a)) (valid-write a ws s p) (valid-write a ws u q)
+  same-step (openPort a p code sink i) t l r q =
+      same-area (openPort a p code sink i) refl (valid-open a p code sink i s r) (valid-open a p code sink i u q)
+  same-step (closePort a) t l p q =
+      same-area (closePort a) (ap (closed a) (same-entry _ _ (k .areas) a)) (valid-close a s p) (valid-close a u q)
+  same-step (writePort a ws) t l p q =
+      same-area (writePort a ws) (ap (λ (n : ℕ). fill n ws) (same-entry _ _ (k .areas) a)) (valid-write a ws s p) (valid-write a ws u q)
   same-step (readPort a) t l p q = k
   same-step (setting t) ty l p q = same-set t

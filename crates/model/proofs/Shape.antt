@@ -13,14 +13,18 @@ use lib.Dec.{eqb}
 use lib.ListN.{length, getD, replicate}
 use Rattle.model.specs.declared.Faults.{Faults}
 use Rattle.model.specs.Layout.{Areas, stride, areasFit, entry, place, wordsAt, portAt, flagsOf, partOf, withPart}
-use Rattle.model.specs.Ports.{codeOf, sizeOf, wellFormed, View, viewOf, view, turned, filledWords, faulty, markedWords, openWords, noWords, Effect, fill, mark, opened, closed, filled, apply}
-use Rattle.model.specs.Shape.{Shape, At, Valid, nothing, filling, marking, opening, closing, refilled, justOpened, refillIf, viewAfter}
+use Rattle.model.specs.Ports.{codeOf, sizeOf, wellFormed, View, viewOf, view, turned, filledWords, faulty, markedWords, openWords}
+use Rattle.model.specs.Ports.{noWords, Effect, fill, mark, opened, closed, filled, apply}
+use Rattle.model.specs.Shape.{Shape, At, Valid, nothing, filling, marking, opening, closing, refilled, justOpened, refillIf}
+use Rattle.model.specs.Shape.{viewAfter}
 use Rattle.model.specs.Calls.{clearedAreas}
 use Rattle.model.proofs.Bits.{flags-of-word}
 use Rattle.model.proofs.Pages.{part-same}
-use Rattle.model.proofs.Formed.{lengths, formed, one-address, filled-formed, marked-formed, openFlags, open-formed, formed-used, size-small}
+use Rattle.model.proofs.Formed.{lengths, formed, one-address, filled-formed, marked-formed, openFlags, open-formed, formed-used}
+use Rattle.model.proofs.Formed.{size-small}
 use Rattle.model.proofs.Views.{view-none, view-at}
-use Rattle.model.proofs.Change.{entry-kept, entry-set, part-kept, part-set, part-either, Own, Change, changed, shape-change, view-other, view-change, view-here}
+use Rattle.model.proofs.Change.{entry-kept, entry-set, part-kept, part-set, part-either, Own, Change, changed, shape-change}
+use Rattle.model.proofs.Change.{view-other, view-change, view-here}
 
 -- ---- cleared areas
 

@@ -88,12 +88,14 @@ module _ (m : Areas) (h : Hearing) (w : ℕ) where
         at : Sink m w u
         at = sink-open m w u found
 
-        go : Dec (v .port ≡ u .port) → eqb (v .port) (u .port) ≡ (v .sink && (eqb w (v .word) && isSound (judgedSlave (codeOf (v .word)) h)))
+        go : Dec (v .port ≡ u .port)
+            → eqb (v .port) (u .port) ≡ (v .sink && (eqb w (v .word) && isSound (judgedSlave (codeOf (v .word)) h)))
         go (yes p) =
             let here : a ≡ addressOf w = distinct m a (addressOf w) v u e (at .there) p in
             let seen : some v ≡ some u = sym e ∙ ap (view m) here ∙ at .there in
             let same : v ≡ u = cc in
-            rw (eq-eqb _ _ p, ap (λ (x : View). x .sink) same ∙ at .sink, ap (λ (x : View). x .word) same ∙ at .word, eq-eqb w w refl, sound)
+            rw
+            (eq-eqb _ _ p, ap (λ (x : View). x .sink) same ∙ at .sink, ap (λ (x : View). x .word) same ∙ at .word, eq-eqb w w refl, sound)
         go (no n) = rw (ne-eqb _ _ n) (sym (other (v .sink) (eqb w (v .word)) refl refl))
           where
             other : (b c : Bool) → v .sink ≡ b → eqb w (v .word) ≡ c → (b && (c && isSound (judgedSlave (codeOf (v .word)) h))) ≡ false
@@ -105,7 +107,8 @@ module _ (m : Areas) (h : Hearing) (w : ℕ) where
             other false c eb ec = refl
 
   -- while w is waited for, a slave frame is taken by the sinks whose word passes
-  while-waiting : Shape m → length (h .words) ≡ 16 → (a : ℕ) → view (apply (taken (sinkFor m w) (judgedSlave (codeOf w) h) h) m) a ≡ takenIf passes (wordsOf h) (view m a)
+  while-waiting : Shape m → length (h .words) ≡ 16 → (a : ℕ)
+      → view (apply (taken (sinkFor m w) (judgedSlave (codeOf w) h) h) m) a ≡ takenIf passes (wordsOf h) (view m a)
   while-waiting shape l a =
       view-apply (taken (sinkFor m w) (judgedSlave (codeOf w) h) h) m a shape (valid-taken m w h (judgedSlave (codeOf w) h) l refl)
       ∙ go (sinkFor m w) refl (judgedSlave (codeOf w) h) refl (view m a) refl
@@ -123,14 +126,16 @@ module _ (m : Areas) (h : Hearing) (w : ℕ) where
       go (some u) eo (Bad crc) ej (some v) ex = none-taken passes (wordsOf h) (some v) (unsound-passes ej)
 
 -- A slave frame is taken exactly when it is a sound answer to the master word of an open sink; no other frame is seen at any address.
-pub taken-exactly : (m : Areas) → Shape m → (h : Hearing) → length (h .words) ≡ 16 → (k : Kind) (x : Exchange) (t : Times) → Live x t → (a : ℕ)
+pub taken-exactly : (m : Areas) → Shape m → (h : Hearing) → length (h .words) ≡ 16 → (k : Kind) (x : Exchange) (t : Times) → Live x t
+    → (a : ℕ)
     → view (apply (effectOf m (asHeard k x h) h) m) a ≡ takenIf (soundAnswer k (waitNow x t 0) h) (wordsOf h) (view m a)
 unfolding apply passes
 taken-exactly m s h l Silence x t v a = none-taken _ (wordsOf h) (view m a) (λ w. refl)
 taken-exactly m s h l Noise x t v a = none-taken _ (wordsOf h) (view m a) (λ w. refl)
 taken-exactly m s h l MasterFrame x t v a = go (judgedMaster h)
   where
-    go : (j : Judgement) → view (apply (effectOf m (asMaster j h) h) m) a ≡ takenIf (soundAnswer MasterFrame (waitNow x t 0) h) (wordsOf h) (view m a)
+    go : (j : Judgement)
+        → view (apply (effectOf m (asMaster j h) h) m) a ≡ takenIf (soundAnswer MasterFrame (waitNow x t 0) h) (wordsOf h) (view m a)
     go Sound = none-taken _ (wordsOf h) (view m a) (λ w. refl)
     go (Bad crc) = none-taken _ (wordsOf h) (view m a) (λ w. refl)
 taken-exactly m s h l SlaveFrame Idle t v a = none-taken _ (wordsOf h) (view m a) (λ w. refl)
@@ -164,12 +169,14 @@ module _ (m : Areas) (h : Hearing) where
       open-sink : sinkFor m w ≡ none → (a : ℕ) (v : View) → view m a ≡ some v → v .sink ≡ true → passes m h w (v .word) ≡ false
       open-sink n a v e k = rw k at (none-open m h w n a v e)
 
-      go : (o : Option View) → sinkFor m w ≡ o → (j : Judgement) → judgedSlave (codeOf w) h ≡ j → Took (soundAnswer SlaveFrame (some w) h) m h (taken o j h)
+      go : (o : Option View) → sinkFor m w ≡ o → (j : Judgement) → judgedSlave (codeOf w) h ≡ j
+          → Took (soundAnswer SlaveFrame (some w) h) m h (taken o j h)
       go none eo j ej = leaves still (open-sink eo)
       go (some u) eo Sound ej = let k = sink-open m w u eo in takes (addressOf w) u (k .there) (k .sink) (rw (k .word, eq-eqb w w refl, ej))
       go (some u) eo (Bad crc) ej = leaves marks (λ a v e k. unsound-passes m h w ej (v .word))
 
-  pub took-heard : (k : Kind) (x : Exchange) (t : Times) → Live x t → Took (soundAnswer k (waitNow x t 0) h) m h (effectOf m (asHeard k x h) h)
+  pub took-heard : (k : Kind) (x : Exchange) (t : Times) → Live x t
+      → Took (soundAnswer k (waitNow x t 0) h) m h (effectOf m (asHeard k x h) h)
   took-heard Silence x t l = leaves still (λ a v e s. refl)
   took-heard Noise x t l = leaves still (λ a v e s. refl)
   took-heard MasterFrame x t l = go (judgedMaster h)
@@ -182,7 +189,8 @@ module _ (m : Areas) (h : Hearing) where
   took-heard SlaveFrame (Waiting w) t l = rw (waits-now w t l) (waiting-took w)
 
 -- The port that takes a frame raises its interrupt, after SFC.
-pub taken-raises : (m : Areas) (h : Hearing) (k : Kind) (x : Exchange) (t : Times) → Live x t → (a : ℕ) (v : View) → view m a ≡ some v → v .sink ≡ true
+pub taken-raises : (m : Areas) (h : Hearing) (k : Kind) (x : Exchange) (t : Times) → Live x t → (a : ℕ) (v : View) → view m a ≡ some v
+    → v .sink ≡ true
     → soundAnswer k (waitNow x t 0) h (v .word) ≡ true → raised0 m x t (asHeard k x h) ≡ SFC ∷ interruptOf (some v)
 taken-raises m h Silence x t l a v e s f = absurd (false≢true f)
 taken-raises m h Noise x t l a v e s f = absurd (false≢true f)
@@ -195,7 +203,8 @@ taken-raises m h SlaveFrame (Waiting w) t l a v e s f = go (both-hold _ _ (rw (w
     sound Sound q = refl
     sound (Bad crc) q = absurd (false≢true q)
 
-    go : (eqb w (v .word) ≡ true) × (isSound (judgedSlave (codeOf (v .word)) h) ≡ true) → raised0 m (Waiting w) t (Reply w (judgedSlave (codeOf w) h)) ≡ SFC ∷ interruptOf (some v)
+    go : (eqb w (v .word) ≡ true) × (isSound (judgedSlave (codeOf (v .word)) h) ≡ true)
+        → raised0 m (Waiting w) t (Reply w (judgedSlave (codeOf w) h)) ≡ SFC ∷ interruptOf (some v)
     go p =
         let same : w ≡ v .word = eqb-true _ _ (p .0) in
         rw (same, sound (judgedSlave (codeOf (v .word)) h) (p .1), sink-found m a v e s)

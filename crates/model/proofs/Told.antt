@@ -4,7 +4,8 @@ use mathlib.Core.List.{List, [], _∷_}
 use lib.Dec.{lit<, lit≤}
 use Rattle.model.specs.Host.{freshController, status}
 use Rattle.model.specs.Calls.{Call, hear, quiet, openPort, closePort, writePort, readPort, setting, refusal, step, start}
-use Rattle.model.specs.Past.{after, Typed, Accepted, lastSet, chosenIn, awaited, openingOf, lastStatus, countSince, framesJudged, framesUnsound}
+use Rattle.model.specs.Past.{after, Typed, Accepted, lastSet, chosenIn, awaited, openingOf, lastStatus, countSince, framesJudged}
+use Rattle.model.specs.Past.{framesUnsound}
 use Rattle.model.proofs.Shape.{shape-cleared, view-cleared}
 use Rattle.model.proofs.Refused.{accepted}
 use Rattle.model.proofs.Invariant.{Told, ToldBy, hear-told}
@@ -25,7 +26,8 @@ start-told =
       ec = refl;
     }
 
-step-told : (past : List Call) (c : Call) → Typed c → refusal c (after past) ≡ 0 → ToldBy past (after past) → ToldBy (c ∷ past) (step c (after past))
+step-told : (past : List Call) (c : Call) → Typed c → refusal c (after past) ≡ 0 → ToldBy past (after past)
+    → ToldBy (c ∷ past) (step c (after past))
 unfolding step
 step-told past (hear a b) ty r h = hear-told past a b ty h
 step-told past (quiet n) ty r h = quiet-told past n h
@@ -33,7 +35,8 @@ step-told past (openPort b p code sink i) ty r h = open-told past b p code sink 
 step-told past (closePort b) ty r h = close-told past b r h
 step-told past (writePort b ws) ty r h = write-told past b ws r h
 step-told past (readPort b) ty r h = read-told past b h
-step-told past (setting t) ty r h = set-told past (after past .controller) (after past .areas) h t (accepted (setting t) (after past) r .1 .0)
+step-told past (setting t) ty r h =
+    set-told past (after past .controller) (after past .areas) h t (accepted (setting t) (after past) r .1 .0)
 
 -- After every past of accepted calls, controller and areas are as the past tells.
 pub told : (past : List Call) → Accepted past → Told past (after past .controller) (after past .areas)

@@ -73,7 +73,8 @@ module _ (d : Device) (m : Areas) (t : Times) (h : Hearing) where
   -- a frame ends the wait, and a sound master frame that asks somebody else begins one
   pub waits-heard : (k : Kind) (x : Exchange) (q : ℕ)
       → waitNow (exchangeAfter d m x (asHeard k x h)) (timesAfter t (asHeard k x h)) q
-      ≡ waitAfter k (judgedMaster h) (waitNow x t q) (cond (asksOthers (expectedOf (codeOf (firstWord h))) (answerOf d m (asHeard k x h)) && ltb q (t .chosen)) (some (firstWord h)) none)
+      ≡ waitAfter k (judgedMaster h) (waitNow x t q)
+      (cond (asksOthers (expectedOf (codeOf (firstWord h))) (answerOf d m (asHeard k x h)) && ltb q (t .chosen)) (some (firstWord h)) none)
   unfolding begun
   waits-heard Silence x q = refl
   waits-heard Noise x q = refl
@@ -96,7 +97,8 @@ module _ (d : Device) (m : Areas) (t : Times) (h : Hearing) where
   live-slave (Waiting w) l = tt
   live-slave Done l = tt
 
-  pub live-heard : (k : Kind) (x : Exchange) → 0 < t .chosen → Live x t → Live (exchangeAfter d m x (asHeard k x h)) (timesAfter t (asHeard k x h))
+  pub live-heard : (k : Kind) (x : Exchange) → 0 < t .chosen → Live x t
+      → Live (exchangeAfter d m x (asHeard k x h)) (timesAfter t (asHeard k x h))
   live-heard Silence x p l = l
   live-heard Noise x p l = l
   live-heard MasterFrame x p l = live-master (judgedMaster h) x p
@@ -115,7 +117,8 @@ waits-later (Waiting w) t l a q = go (leb (t .adopted) (sinceLater t)) refl
     counts = rw (lt-ltb (t .since) 1950 (omega arith))
 
     go : (b : Bool) → leb (t .adopted) (sinceLater t) ≡ b
-        → waitNow (exchangeLater (Waiting w) (cond b (some w) none)) (timesLater t) q ≡ cond (ltb (t .since + (1 + q)) (t .adopted)) (some w) none
+        → waitNow (exchangeLater (Waiting w) (cond b (some w) none)) (timesLater t) q ≡ cond (ltb (t .since + (1 + q)) (t .adopted))
+        (some w) none
     go true e = let h : t .adopted ≤ sinceLater t = leb-true _ _ e in rw (le-ltb (t .since + (1 + q)) (t .adopted) (omega (arith, counts)))
     go false e = rw counts (rw add-assoc)
 

@@ -13,7 +13,8 @@ use Rattle.model.specs.declared.Answer.the-variants.{Never, Good, Held, 
 use Rattle.model.specs.declared.Heard.{Heard}
 use Rattle.model.specs.declared.Heard.the-variants.{Nothing, Unsound, Master, Reply, Stray}
 use Rattle.model.specs.Layout.{Areas, areas, stride, areasFit, entry, portAt, flagsOf}
-use Rattle.model.specs.Ports.{codeOf, addressOf, hasPorts, sizeOf, wellFormed, validWords, stateOf, Effect, untouched, fill, opened, closed, apply}
+use Rattle.model.specs.Ports.{codeOf, addressOf, hasPorts, sizeOf, wellFormed, validWords, stateOf, Effect, untouched, fill, opened}
+use Rattle.model.specs.Ports.{closed, apply}
 use Rattle.model.specs.Event.{World, world, heardBy, hearController, hearEffect, hearAnswer, spoken}
 use Rattle.model.specs.Quiet.{ticks, dueWithin}
 use Rattle.model.specs.Host.{freshController, Setting, settingOut, tell}
@@ -238,7 +239,8 @@ portAreas c m = outcome c (among m) .world .areas
 
 -- asking answers never, good, or held, or a refusal
 unfoldable pub asked : Areas → ℕ → Answer
-asked m a = cond (eqb (portRefusal (readPort a) m) 0) (stateOf (flagsOf (portAt m (entry m a) .flags))) (Refused (portRefusal (readPort a) m))
+asked m a =
+    cond (eqb (portRefusal (readPort a) m) 0) (stateOf (flagsOf (portAt m (entry m a) .flags))) (Refused (portRefusal (readPort a) m))
 
 -- document 01's number and word for each answer
 abbrev pub refusalOf : Answer → ℕ

@@ -67,7 +67,8 @@ unfoldable pub rule4 : Bool → Lines → Lines
 rule4 poorer l = lines (l .laa) (disturbedIf poorer l) (l .ls) (l .slm)
 
 -- rule 5: LS filed by the host acts with RLD and SLM clear, then clears
+abbrev pub acts5 : Lines → Bool
+acts5 l = l .ls && not (l .rld) && not (l .slm)
+
 unfoldable pub rule5 : Lines → Lines
-rule5 l =
-    let acting = l .ls && not (l .rld) in
-    lines (switchIf acting l) (l .rld) (cond (acting && not (l .slm)) false (l .ls)) (l .slm)
+rule5 l = lines (cond (acts5 l) (not (l .laa)) (l .laa)) (l .rld) (cond (acts5 l) false (l .ls)) (l .slm)

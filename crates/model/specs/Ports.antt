@@ -15,7 +15,8 @@ use Rattle.model.specs.declared.Sought.{Sought}
 use Rattle.model.specs.declared.Sought.the-variants.{Nothing, Damaged, Port}
 use Rattle.model.specs.declared.Answer.{Answer}
 use Rattle.model.specs.declared.Answer.the-variants.{Never, Good, Held}
-use Rattle.model.specs.Layout.{Areas, areas, entry, withEntry, portAt, withPort, withWords, flagsOf, wordOf, zeroBits, partOf, withPart}
+use Rattle.model.specs.Layout.{Areas, areas, entry, withEntry, portAt, withPort, withWords, flagsOf, wordOf, zeroBits, partOf}
+use Rattle.model.specs.Layout.{withPart}
 
 -- ---- the master word, F-code x 4096 + address
 

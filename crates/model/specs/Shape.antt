@@ -11,7 +11,8 @@ use lib.Dec.{eqb}
 use lib.ListN.{length}
 use Rattle.model.specs.declared.Faults.{Faults}
 use Rattle.model.specs.Layout.{Areas, areasFit, entry, portAt}
-use Rattle.model.specs.Ports.{masterWord, codeOf, addressOf, sizeOf, wellFormed, View, view, Effect, untouched, fill, mark, opened, closed}
+use Rattle.model.specs.Ports.{masterWord, codeOf, addressOf, sizeOf, wellFormed, View, view, Effect, untouched, fill, mark, opened}
+use Rattle.model.specs.Ports.{closed}
 
 -- the entry of address a leads to a port whose words are well formed for a
 pub record Leads (m : Areas) (a : ℕ) : Type 0 where

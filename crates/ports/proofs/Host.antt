@@ -10,10 +10,12 @@ use Rattle.model.specs.declared.Answer.{Answer}
 use Rattle.model.specs.declared.Answer.the-variants.{Never, Good, Held, Refused}
 use Rattle.model.specs.Layout.{Areas, entry}
 use Rattle.model.specs.Ports.{validWords}
-use Rattle.model.specs.Calls.{Call, openPort, closePort, writePort, readPort, needed, refusal, step, outcomeOf, outcome, among, portRefusal, portAreas, asked, partFor, fetched}
+use Rattle.model.specs.Calls.{Call, openPort, closePort, writePort, readPort, needed, refusal, step, outcomeOf, outcome, among}
+use Rattle.model.specs.Calls.{portRefusal, portAreas, asked, partFor, fetched}
 use Rattle.model.proofs.Refused.{accepted}
 use Rattle.model.proofs.Accepted.{InRange, open-range}
-use Rattle.ports.specs.Host.{out, hostCall, openRefusal, reached, writeRefusal, shown}
+use Rattle.areas.specs.Lent.{shown}
+use Rattle.ports.specs.Host.{out, hostCall, openRefusal, reached, writeRefusal}
 
 pub open-number : (m : Areas) (a p code : ℕ) (sink : Bool) (i : ℕ) → portRefusal (openPort a p code sink i) m ≡ openRefusal m a p code i
 unfolding portRefusal refusal needed openRefusal

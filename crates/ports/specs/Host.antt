@@ -1,20 +1,13 @@
 -- Document 01, "Host calls on ports" and "What callers are told": a host's call as one outcome, and the refusals of the calls on ports,
 -- written out in the document's order. Assumes nothing.
 use Prim.Native.Nat.{ℕ}
-use mathlib.Core.Bool.{Bool, true, false, cond, not, _||_}
+use mathlib.Core.Bool.{cond, not, _||_}
 use mathlib.Core.List.{List}
 use lib.Dec.{eqb, ltb}
 use lib.ListN.{length}
-use denote.Ref.{RefT, now}
-use Rattle.model.specs.declared.Answer.{Answer}
-use Rattle.model.specs.declared.Answer.the-variants.{Never, Good, Held, Refused}
-use Rattle.model.specs.Layout.{Areas, areas, areasFit, entry, portAt, flagsOf}
+use Rattle.model.specs.Layout.{Areas, areasFit, entry, portAt, flagsOf}
 use Rattle.model.specs.Ports.{codeOf, sizeOf, wellFormed}
 use Rattle.model.specs.Calls.{Call, openOut, portRefusal, portAreas}
-
--- the four areas as they are lent: index table, port words, page 0 and page 1
-abbrev pub lent : RefT (List ℕ) → RefT (List ℕ) → RefT (List ℕ) → RefT (List ℕ) → Areas
-lent i p z o = areas (now i) (now p) (now z) (now o)
 
 -- what a call leaves: the areas, and the number that it answers
 pub record Out : Type 0 where
@@ -53,10 +46,3 @@ writeRefusal m a ws =
     reached m a
     (cond (flagsOf (portAt m (entry m a) .flags) .sink) 5
     (cond (not (eqb (length ws) (sizeOf (codeOf (portAt m (entry m a) .master))))) 2 0))
-
--- the answers with which fetching hands back words
-abbrev pub shown : Answer → Bool
-shown Never = false
-shown Good = true
-shown Held = true
-shown (Refused n) = false

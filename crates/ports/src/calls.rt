@@ -4,13 +4,14 @@ ghost use mathlib.Core.Path.{_≡_};
 ghost use Prim.Native.Nat.{_≤_};
 ghost use Rattle.model.specs.Ports.{openWords};
 ghost use Rattle.model.specs.Calls.{openPort, closePort, writePort, asked, fetched};
-ghost use Rattle.ports.specs.Host.{lent, out, hostCall};
-use crate::choice::pick_answer;
-use crate::layout;
-use crate::numbers;
-use crate::port;
+ghost use Rattle.areas.specs.Lent.{lent};
+ghost use Rattle.ports.specs.Host.{out, hostCall};
 use crate::refusal;
-use crate::store;
+use areas::layout;
+use areas::pick::pick_answer;
+use areas::port;
+use areas::store;
+use constants::CODE_UNIT;
 use model::Answer;
 use model::Flags;
 use model::Words;
@@ -29,7 +30,7 @@ fn open_words(a: u16, code: u16, sink: bool, interrupt: u16) -> Words
         faults,
     };
     Words {
-        master: code * numbers::CODE_UNIT + a,
+        master: code * CODE_UNIT + a,
         flags: layout::word_of(f),
         interrupt,
         fills: 0,

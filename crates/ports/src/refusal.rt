@@ -2,22 +2,23 @@
 // first in the document's order that holds gives the number; 0 where none does.
 ghost use mathlib.Core.Path.{_≡_};
 ghost use Rattle.model.specs.Calls.{openOut};
-ghost use Rattle.ports.specs.Host.{lent, openRefusal, reached, writeRefusal};
-use crate::choice::either;
-use crate::choice::first;
-use crate::layout;
-use crate::numbers::AREA;
-use crate::numbers::CODE_UNIT;
-use crate::numbers::DAMAGED;
-use crate::numbers::LAST_ADDRESS;
-use crate::numbers::LAST_CODE;
-use crate::numbers::LAST_INTERRUPT;
-use crate::numbers::LAST_PORT;
-use crate::numbers::NOPORT;
-use crate::numbers::RANGE;
-use crate::numbers::SIDE;
-use crate::numbers::TAKEN;
-use crate::port;
+ghost use Rattle.areas.specs.Lent.{lent};
+ghost use Rattle.ports.specs.Host.{openRefusal, reached, writeRefusal};
+use areas::layout;
+use areas::port;
+use choice::either;
+use choice::pick;
+use constants::AREA;
+use constants::CODE_UNIT;
+use constants::DAMAGED;
+use constants::LAST_ADDRESS;
+use constants::LAST_CODE;
+use constants::LAST_INTERRUPT;
+use constants::LAST_PORT;
+use constants::NOPORT;
+use constants::RANGE;
+use constants::SIDE;
+use constants::TAKEN;
 
 // An argument of an opening is out of range.
 fn open_out(a: u16, p: u16, code: u16, interrupt: u16) -> bool
@@ -44,10 +45,10 @@ pub fn of_open(
     let out = open_out(a, p, code, interrupt);
     let e = layout::get(index, a as usize);
     let w = layout::get_port(ports, p);
-    let taken = first(either(e != 0, w.flags != 0), TAKEN, 0);
-    let entry = first(LAST_PORT < e, DAMAGED, taken);
-    let arguments = first(out, RANGE, entry);
-    first(!fits, AREA, arguments)
+    let taken = pick(either(e != 0, w.flags != 0), TAKEN, 0);
+    let entry = pick(LAST_PORT < e, DAMAGED, taken);
+    let arguments = pick(out, RANGE, entry);
+    pick(!fits, AREA, arguments)
 }
 
 // What needs a port: AREA, RANGE, DAMAGED for the entry, NOPORT, DAMAGED for the port words; then what the call tests of its port, 0 for
@@ -58,11 +59,11 @@ pub fn reach(index: &[u16], ports: &[u16], page0: &[u16], page1: &[u16], a: u16,
     let fits = layout::fits(index, ports, page0, page1);
     let e = layout::get(index, a as usize);
     let formed = port::well_formed(a, layout::get_port(ports, e));
-    let words = first(!formed, DAMAGED, later);
-    let none = first(e == 0, NOPORT, words);
-    let entry = first(LAST_PORT < e, DAMAGED, none);
-    let address = first(LAST_ADDRESS < a, RANGE, entry);
-    first(!fits, AREA, address)
+    let words = pick(!formed, DAMAGED, later);
+    let none = pick(e == 0, NOPORT, words);
+    let entry = pick(LAST_PORT < e, DAMAGED, none);
+    let address = pick(LAST_ADDRESS < a, RANGE, entry);
+    pick(!fits, AREA, address)
 }
 
 // Writing: SIDE, RANGE for the size.
@@ -79,7 +80,7 @@ pub fn of_write(
     let w = layout::get_port(ports, layout::get(index, a as usize));
     let f = layout::flags_of(w.flags);
     let n = port::port_size(w.master / CODE_UNIT);
-    let size = first(words.len() != n, RANGE, 0);
-    let side = first(f.sink, SIDE, size);
+    let size = pick(words.len() != n, RANGE, 0);
+    let side = pick(f.sink, SIDE, size);
     reach(index, ports, page0, page1, a, side)
 }

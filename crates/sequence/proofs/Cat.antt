@@ -24,7 +24,8 @@ unfolding pushes
 pushes-cat zero k r a b h = ap (λ (n : ℕ). pushes n r (a * 2 ^ k + b)) (zero-add k) ∙ pushes-low k r a b
 pushes-cat (suc j) k r a b h =
     let n = a * 2 ^ k + b in
-    let q : n / 2 ^ (j + k) ≡ a / 2 ^ j = ap (λ (e : ℕ). n / 2 ^ e) (add-comm j k) ∙ sym (shr-shr n k j) ∙ ap (λ (x : ℕ). x / 2 ^ j) (high a k h) in
+    let q : n / 2 ^ (j + k) ≡ a / 2 ^ j =
+    ap (λ (e : ℕ). n / 2 ^ e) (add-comm j k) ∙ sym (shr-shr n k j) ∙ ap (λ (x : ℕ). x / 2 ^ j) (high a k h) in
     ap (λ (m : ℕ). pushes m r n) (suc-add j k)
     ∙ ap (λ (x : ℕ). pushes (j + k) (push r (x % 2)) n) q
     ∙ pushes-cat j k (push r (a / 2 ^ j % 2)) a b h

@@ -18,7 +18,8 @@ use Rattle.sequence.proofs.Xor.{xor-assoc, xor4, xor-shl}
 -- (p·x + b)·x^7 + (r·x + b·x^7) is (p·x^7 + r)·x
 carried : (p r b : ℕ) → b < 2 → bitXor ((p * 2 + b) * 128) (bitXor (r * 2) (b * 128)) ≡ bitXor (p * 128) r * 2
 carried p r b h =
-    let e : (p * 2 + b) * 128 ≡ bitXor (p * 2 * 128) (b * 128) = ap (λ (n : ℕ). n * 128) (sym (xor-shifted p 1 b h)) ∙ xor-shl (p * 2) b 7 in
+    let e : (p * 2 + b) * 128 ≡ bitXor (p * 2 * 128) (b * 128) =
+    ap (λ (n : ℕ). n * 128) (sym (xor-shifted p 1 b h)) ∙ xor-shl (p * 2) b 7 in
     let s : p * 2 * 128 ≡ p * 128 * 2 = omega arith in
     ap (λ (n : ℕ). bitXor n (bitXor (r * 2) (b * 128))) (e ∙ ap (λ (n : ℕ). bitXor n (b * 128)) s)
     ∙ xor4 (p * 128 * 2) (b * 128) (r * 2) (b * 128)
@@ -37,7 +38,8 @@ pushed : (p r b : ℕ) → b < 2 → Remainder (p * 128) r → Remainder ((p * 2
 unfolding push
 pushed p r b h k = record {
   small = push-lt r b (k .small) h;
-  divides = reduced ((p * 2 + b) * 128) (bitXor (r * 2) (b * 128)) (subst (λ (n : ℕ). Multiple n) (sym (carried p r b h)) (shift (k .divides)));
+  divides =
+      reduced ((p * 2 + b) * 128) (bitXor (r * 2) (b * 128)) (subst (λ (n : ℕ). Multiple n) (sym (carried p r b h)) (shift (k .divides)));
 }
 
 -- k digits more

@@ -67,5 +67,6 @@ pushes-xor zero r s a b h l = refl
 pushes-xor (suc k) r s a b h l =
     let p = a / 2 ^ k % 2 in
     let q = b / 2 ^ k % 2 in
-    ap (λ (n : ℕ). pushes k n (bitXor a b)) (ap (push (bitXor r s)) (digit a b k) ∙ push-xor r s p q h l (bit (a / 2 ^ k)) (bit (b / 2 ^ k)))
+    ap (λ (n : ℕ). pushes k n (bitXor a b))
+    (ap (push (bitXor r s)) (digit a b k) ∙ push-xor r s p q h l (bit (a / 2 ^ k)) (bit (b / 2 ^ k)))
     ∙ pushes-xor k (push r p) (push s q) a b (push-lt r p h (bit (a / 2 ^ k))) (push-lt s q l (bit (b / 2 ^ k)))

@@ -71,6 +71,7 @@ unique p r s f g =
     let y : pushes k 0 (bitXor p s) ≡ 0 = gone (g .divides) k (omega arith) (xor-lt k p s b (lt-of-lt-of-le (g .small) b7)) in
     let l : bitXor r s < 128 = xor-lt 7 r s (f .small) (g .small) in
     let e : bitXor (bitXor p r) (bitXor p s) ≡ bitXor r s = xor4 p r p s ∙ ap (λ (n : ℕ). bitXor n (bitXor r s)) (xor-self p) in
-    let z : pushes k 0 (bitXor r s) ≡ 0 = ap (pushes k 0) (sym e) ∙ pushes-xor k 0 0 (bitXor p r) (bitXor p s) (lit< tt) (lit< tt) ∙ ap₂ bitXor x y in
+    let z : pushes k 0 (bitXor r s) ≡ 0 =
+    ap (pushes k 0) (sym e) ∙ pushes-xor k 0 0 (bitXor p r) (bitXor p s) (lit< tt) (lit< tt) ∙ ap₂ bitXor x y in
     let w : bitXor r s ≡ 0 = seen (bitXor r s) l (sym (front p 8 (bitXor r s) (omega arith)) ∙ z) in
     sym (xor-twice r s) ∙ ap (λ (n : ℕ). bitXor n s) w

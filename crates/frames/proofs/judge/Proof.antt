@@ -12,9 +12,6 @@ use Rattle.frames.proofs.judge.Tie as tie
 returns : tie.Need-returns
 returns c = wrong-size _ _ (c .if1 .taken)
 
-block-count-requires : tie.Need-block-count-requires
-block-count-requires c κs = search needs
-
 returns-2 : tie.Need-returns-2
 returns-2 c = wrong-ends _ _ (c .before .before .before .if1 .left) (λ e. c .if2 .taken (e ∙ sym (c .before .before .block-count .ensures)))
 
@@ -29,32 +26,17 @@ slice-aggregate-checks-right c =
     let l : length (h .words) ≡ 16 = search needs in
     sym (length-take-le (h .size) (h .words) (omega arith))
 
-checks-right-requires : tie.Need-checks-right-requires
-checks-right-requires c κs = search needs
-
-is-marked-requires : tie.Need-is-marked-requires
-is-marked-requires c κs = search needs
-
-tell-requires : tie.Need-tell-requires
-tell-requires c κs = search needs
-
 returns-3 : tie.Need-returns-3
 unfolding wordsOf
 returns-3 c =
-    let a = c .before .before .before .before .before .before .before .before .before .before .args in
-    let counts = right-counts (a .n) (a .h) (c .before .before .before .before .before .before .before .before .before .if1 .left) (c .before .before .before .before .before .before .if2 .left ∙ c .before .before .before .before .before .before .before .before .block-count .ensures) in
+    let ended = c .before .before .before .before .before .before in
+    let sized = ended .before .before .before in
+    let a = sized .before .args in
+    let counts = right-counts (a .n) (a .h) (sized .if1 .left) (ended .if2 .left ∙ ended .before .before .block-count .ensures) in
     (c .tell .ensures ∙ rw (c .before .is-marked .ensures, c .before .before .checks-right .ensures) counts)
 
 pub judge-spec : {M : Type 1} → statement M
 judge-spec =
     tie.close
-    (tie.spec
-    returns
-    block-count-requires
-    returns-2
-    array-share-prefix-words
-    slice-aggregate-checks-right
-    checks-right-requires
-    is-marked-requires
-    tell-requires
-    returns-3)
+    (tie.spec returns (λ c κs. search needs) returns-2 array-share-prefix-words slice-aggregate-checks-right (λ c κs. search needs)
+    (λ c κs. search needs) (λ c κs. search needs) returns-3)

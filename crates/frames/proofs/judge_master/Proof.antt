@@ -4,12 +4,9 @@ use borrow.Author.Needs.{needs}
 use Rattle.frames.proofs.judge_master.Statement.{statement}
 use Rattle.frames.proofs.judge_master.Tie as tie
 
-judge-requires : tie.Need-judge-requires
-judge-requires c κs = search needs
-
 returns : tie.Need-returns
 unfolding judgedMaster
 returns c = c .judge .ensures
 
 pub judge-master-spec : {M : Type 1} → statement M
-judge-master-spec = tie.close (tie.spec judge-requires returns)
+judge-master-spec = tie.close (tie.spec (λ c κs. search needs) returns)

@@ -6,17 +6,8 @@ use borrow.Author.Needs.{needs}
 use Rattle.frames.proofs.judge_slave.Statement.{statement}
 use Rattle.frames.proofs.judge_slave.Tie as tie
 
-reply-size-requires : tie.Need-reply-size-requires
-reply-size-requires c κs = search needs
-
-enum-known-n : tie.Need-enum-known-n
-enum-known-n c = search needs
-
 judge-requires : tie.Need-judge-requires
 judge-requires c κs = longest _ _ (sym (c .before .before .before .reply-size .ensures) ∙ c .before .n .given .1)
-
-enum-told : tie.Need-enum-told
-enum-told c = search needs
 
 returns : tie.Need-returns
 unfolding judgedSlave
@@ -29,4 +20,4 @@ returns-2 c = rw (sym (c .before .before .reply-size .ensures) ∙ c .enum-told 
 pub judge-slave-spec : {M : Type 1} → statement M
 judge-slave-spec =
     tie.close
-    (tie.spec reply-size-requires enum-known-n judge-requires enum-told returns returns-2)
+    (tie.spec (λ c κs. search needs) (λ c. search needs) judge-requires (λ c. search needs) returns returns-2)

@@ -12,12 +12,6 @@ returns : tie.Need-returns
 unfolding expectedOf sizes
 returns c = sym (List·getD-eq-default sizes NoReply (c .if1 .taken))
 
-mul-n : tie.Need-mul-n
-mul-n c = search needs
-
-array-read-n : tie.Need-array-read-n
-array-read-n c = search needs
-
 returns-2 : tie.Need-returns-2
 unfolding sizes
 returns-2 c = ap entry (sym (c .if2 .taken)) ∙ by-table (c .before .before .args .code)
@@ -27,4 +21,4 @@ unfolding sizes
 returns-3 c = some-words _ (c .if2 .left) ∙ by-table (c .before .before .args .code)
 
 pub reply-size-spec : {M : Type 1} → statement M
-reply-size-spec = tie.close (tie.spec returns mul-n array-read-n returns-2 returns-3)
+reply-size-spec = tie.close (tie.spec returns (λ c. search needs) (λ c. search needs) returns-2 returns-3)

@@ -7,11 +7,8 @@ use Rattle.frames.proofs.tell.Tie as tie
 returns : tie.Need-returns
 returns c = rw (c .before .if1 .taken, c .if2 .taken)
 
-returns-2 : tie.Need-returns-2
-returns-2 c = search needs
-
 returns-3 : tie.Need-returns-3
 returns-3 c = ends-wrong (c .before .args .marks) (c .if1 .left)
 
 pub tell-spec : {M : Type 1} → statement M
-tell-spec = tie.close (tie.spec returns returns-2 returns-3)
+tell-spec = tie.close (tie.spec returns (λ c. search needs) returns-3)

@@ -23,14 +23,8 @@ returns-2 : tie.Need-returns-2
 unfolding dataTransfer
 returns-2 c = rw (lt-leb _ _ (c .if2 .taken))
 
-sub-result : tie.Need-sub-result
-sub-result c = search needs
-
-shl-result : tie.Need-shl-result
-shl-result c = search needs
-
 returns-3 : tie.Need-returns-3
 returns-3 c = named (c .before .before .args .i) (omega arith) (omega arith)
 
 pub data-transfer-spec : {M : Type 1} → statement M
-data-transfer-spec = tie.close (tie.spec returns returns-2 sub-result shl-result returns-3)
+data-transfer-spec = tie.close (tie.spec returns returns-2 (λ c. search needs) (λ c. search needs) returns-3)

@@ -12,9 +12,6 @@ use Rattle.interrupts.proofs.highest_bit.Tie as tie
 sub-result : tie.Need-sub-result
 sub-result c = omega (arith, leading-top 16 (c .args .x) (c .pre) (c .fits .x .fits) .1)
 
-cast-result : tie.Need-cast-result
-cast-result c = search needs
-
 returns : tie.Need-returns
 returns c =
     let top = leading-top 16 (c .args .x) (c .pre) (c .fits .x .fits) in
@@ -22,4 +19,4 @@ returns c =
     (ap some e ∙ sym (highest-at 16 (top .0) (c .args .x) (omega arith) (top .2) (top .3)), omega arith)
 
 pub highest-bit-spec : {M : Type 1} → statement M
-highest-bit-spec = tie.close (tie.spec sub-result cast-result returns)
+highest-bit-spec = tie.close (tie.spec sub-result (λ c. search needs) returns)

@@ -5,9 +5,6 @@ use Rattle.sequence.specs.Frame.{blocks}
 use Rattle.sequence.proofs.block_count.Statement.{statement}
 use Rattle.sequence.proofs.block_count.Tie as tie
 
-add-result : tie.Need-add-result
-add-result c = search needs
-
 returns : tie.Need-returns
 unfolding blocks
 returns c = simp (le-leb _ _ (c .if1 .taken))
@@ -17,4 +14,4 @@ unfolding blocks
 returns-2 c = simp (lt-leb _ _ (c .if1 .left))
 
 pub block-count-spec : {M : Type 1} → statement M
-block-count-spec = tie.close (tie.spec add-result returns returns-2)
+block-count-spec = tie.close (tie.spec (λ c. search needs) returns returns-2)

@@ -13,20 +13,16 @@ use Rattle.sequence.proofs.byte_at.Statement.{statement}
 use Rattle.sequence.proofs.byte_at.Tie as tie
 
 -- where the test held, block k begins inside the frame
-inside : (c : tie.Then1) → (4 * c .before .before .before .args .k < length (c .before .before .before .args .words .now)) × (length (c .before .before .before .args .words .now) ≤ 16)
+inside : (c : tie.Then1)
+    → (4 * c .before .before .before .args .k < length (c .before .before .before .args .words .now))
+    × (length (c .before .before .before .args .words .now) ≤ 16)
 inside c = begins _ _ (rw (c .before .block-count .ensures) at (c .if1 .taken))
-
-block-count-requires : tie.Need-block-count-requires
-block-count-requires c κs = search needs
 
 mul-from : tie.Need-mul-from
 mul-from c = omega (arith, inside c)
 
 add-lesser : tie.Need-add-lesser
 add-lesser c = omega (arith, inside c)
-
-lesser-requires : tie.Need-lesser-requires
-lesser-requires c κs = search needs
 
 mul-check : tie.Need-mul-check
 mul-check c = omega (arith, inside (c .before))
@@ -36,12 +32,6 @@ sub-check c = omega (arith, inside (c .before))
 
 part-check-start : tie.Need-part-check-start
 part-check-start c = omega (arith, inside (c .before))
-
-part-check-end : tie.Need-part-check-end
-part-check-end c = search needs
-
-check-requires : tie.Need-check-requires
-check-requires c κs = search needs
 
 returns : tie.Need-returns
 unfolding byteAt checkAt
@@ -57,15 +47,5 @@ returns-2 c = rw (le-ltb _ _ (rw (c .before .block-count .ensures) at (c .if1 .l
 pub byte-at-spec : {M : Type 1} → statement M
 byte-at-spec =
     tie.close
-    (tie.spec
-    block-count-requires
-    mul-from
-    add-lesser
-    lesser-requires
-    mul-check
-    sub-check
-    part-check-start
-    part-check-end
-    check-requires
-    returns
-    returns-2)
+    (tie.spec (λ c κs. search needs) mul-from add-lesser (λ c κs. search needs) mul-check sub-check part-check-start (λ c. search needs)
+    (λ c κs. search needs) returns returns-2)

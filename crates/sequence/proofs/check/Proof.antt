@@ -23,28 +23,10 @@ Inv-loop words r₀ odd₀ i₀ r odd i =
 abbrev μ-loop : tie.MeasureT-loop
 μ-loop words r₀ odd₀ i₀ r odd i = length words - i
 
-loop-holds : tie.Need-loop-holds Inv-loop μ-loop
-loop-holds c = search needs
-
-mul-w : tie.Need-mul-w Inv-loop μ-loop
-mul-w c = search needs
-
-shared-slice-read-w : tie.Need-shared-slice-read-w Inv-loop μ-loop
-shared-slice-read-w c = search needs
-
-push-word-requires : tie.Need-push-word-requires Inv-loop μ-loop
-push-word-requires c κs = search needs
-
 add-odd : tie.Need-add-odd Inv-loop μ-loop
 add-odd c =
     let i = c .before .before .before .loop .i in
     omega (arith, ones-le 16 _ (c .before .shared-slice-known2 .given i .fits))
-
-add-i : tie.Need-add-i Inv-loop μ-loop
-add-i c = search needs
-
-loop-less : tie.Need-loop-less Inv-loop μ-loop
-loop-less c = search needs
 
 loop-again : tie.Need-loop-again Inv-loop μ-loop
 unfolding rest onesOf
@@ -57,9 +39,6 @@ loop-again c =
 add-p : tie.Need-add-p Inv-loop μ-loop
 add-p c = omega (arith, ones-le 7 _ (c .before .loop .inv .2))
 
-cast-result : tie.Need-cast-result Inv-loop μ-loop
-cast-result c = search needs
-
 returns : tie.Need-returns Inv-loop μ-loop
 unfolding rest onesOf
 returns c =
@@ -71,17 +50,5 @@ returns c =
 pub check-spec : {M : Type 1} → statement M
 check-spec =
     tie.close
-    (tie.spec
-    Inv-loop
-    μ-loop
-    loop-holds
-    mul-w
-    shared-slice-read-w
-    push-word-requires
-    add-odd
-    add-i
-    loop-less
-    loop-again
-    add-p
-    cast-result
-    returns)
+    (tie.spec Inv-loop μ-loop (λ c. search needs) (λ c. search needs) (λ c. search needs) (λ c κs. search needs) add-odd
+    (λ c. search needs) (λ c. search needs) loop-again add-p (λ c. search needs) returns)

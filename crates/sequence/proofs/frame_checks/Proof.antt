@@ -4,21 +4,6 @@ use Rattle.sequence.specs.Frame.{frameChecks}
 use Rattle.sequence.proofs.frame_checks.Statement.{statement}
 use Rattle.sequence.proofs.frame_checks.Tie as tie
 
-block-count-requires : tie.Need-block-count-requires
-block-count-requires c κs = search needs
-
-byte-at-requires : tie.Need-byte-at-requires
-byte-at-requires c κs = search needs
-
-byte-at-requires-2 : tie.Need-byte-at-requires-2
-byte-at-requires-2 c κs = search needs
-
-byte-at-requires-3 : tie.Need-byte-at-requires-3
-byte-at-requires-3 c κs = search needs
-
-byte-at-requires-4 : tie.Need-byte-at-requires-4
-byte-at-requires-4 c κs = search needs
-
 returns : tie.Need-returns
 unfolding frameChecks
 returns c = cc
@@ -26,10 +11,4 @@ returns c = cc
 pub frame-checks-spec : {M : Type 1} → statement M
 frame-checks-spec =
     tie.close
-    (tie.spec
-    block-count-requires
-    byte-at-requires
-    byte-at-requires-2
-    byte-at-requires-3
-    byte-at-requires-4
-    returns)
+    (tie.spec (λ c κs. search needs) (λ c κs. search needs) (λ c κs. search needs) (λ c κs. search needs) (λ c κs. search needs) returns)

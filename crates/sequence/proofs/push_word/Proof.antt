@@ -14,23 +14,11 @@ Inv-loop r w v₀ k₀ v k = (pushes k v w ≡ pushes 16 r w) × (v < 128) × (k
 abbrev μ-loop : tie.MeasureT-loop
 μ-loop r w v₀ k₀ v k = k
 
-loop-holds : tie.Need-loop-holds Inv-loop μ-loop
-loop-holds c = search needs
-
-sub-k : tie.Need-sub-k Inv-loop μ-loop
-sub-k c = search needs
-
-shr-b : tie.Need-shr-b Inv-loop μ-loop
-shr-b c = search needs
-
 cast-push-bit : tie.Need-cast-push-bit Inv-loop μ-loop
 cast-push-bit c = rw last-bit (omega arith)
 
 push-bit-requires : tie.Need-push-bit-requires Inv-loop μ-loop
 push-bit-requires c κs = (c .before .loop .inv .1, rw last-bit (omega arith))
-
-loop-less : tie.Need-loop-less Inv-loop μ-loop
-loop-less c = search needs
 
 loop-again : tie.Need-loop-again Inv-loop μ-loop
 loop-again c =
@@ -48,14 +36,5 @@ returns c =
 pub push-word-spec : {M : Type 1} → statement M
 push-word-spec =
     tie.close
-    (tie.spec
-    Inv-loop
-    μ-loop
-    loop-holds
-    sub-k
-    shr-b
-    cast-push-bit
-    push-bit-requires
-    loop-less
-    loop-again
-    returns)
+    (tie.spec Inv-loop μ-loop (λ c. search needs) (λ c. search needs) (λ c. search needs) cast-push-bit push-bit-requires
+    (λ c. search needs) loop-again returns)

@@ -6,24 +6,6 @@ use borrow.Author.Needs.{needs}
 use Rattle.bus.proofs.calls.hear_refusal.Statement.{statement}
 use Rattle.bus.proofs.calls.hear_refusal.Tie as tie
 
-in-range-requires : tie.Need-in-range-requires
-in-range-requires c κs = search needs
-
-in-range-requires-2 : tie.Need-in-range-requires-2
-in-range-requires-2 c κs = search needs
-
-either-requires : tie.Need-either-requires
-either-requires c κs = search needs
-
-fits-requires : tie.Need-fits-requires
-fits-requires c κs = search needs
-
-damaged-heard-requires : tie.Need-damaged-heard-requires
-damaged-heard-requires c κs = search needs
-
-event-refusal-requires : tie.Need-event-refusal-requires
-event-refusal-requires c κs = search needs
-
 returns : tie.Need-returns
 returns c =
     let a = c .before .before .before .before .before .before .before .before .before .before .args in
@@ -41,11 +23,5 @@ returns c =
 pub hear-refusal-spec : {M : Type 1} → statement M
 hear-refusal-spec =
     tie.close
-    (tie.spec
-    in-range-requires
-    in-range-requires-2
-    either-requires
-    fits-requires
-    damaged-heard-requires
-    event-refusal-requires
-    returns)
+    (tie.spec (λ c κs. search needs) (λ c κs. search needs) (λ c κs. search needs) (λ c κs. search needs) (λ c κs. search needs)
+    (λ c κs. search needs) returns)

@@ -21,15 +21,6 @@ abbrev μ-loop : tie.MeasureT-loop
 loop-holds : tie.Need-loop-holds Inv-loop μ-loop
 loop-holds c = (refl, refl)
 
-jump-requires : tie.Need-jump-requires Inv-loop μ-loop
-jump-requires c κs = search needs
-
-tick-requires : tie.Need-tick-requires Inv-loop μ-loop
-tick-requires c κs = search needs
-
-sub-left : tie.Need-sub-left Inv-loop μ-loop
-sub-left c = search needs
-
 loop-less : tie.Need-loop-less Inv-loop μ-loop
 loop-less c =
     let jumping = c .before .before .before .before .before .before in
@@ -40,11 +31,11 @@ loop-again : tie.Need-loop-again Inv-loop μ-loop
 loop-again c =
     let jumping = c .before .before .before .before .before .before in
     let l = jumping .before .before .loop in
-    let on = jump-left _ _ _ (jumping .jump .ensures) in
-    (search needs, ap (ticks _) (c .before .before .tick .ensures) ∙ tick-left _ _ (c .before .before .before .before .if1 .taken) ∙ on ∙ l .inv .1)
-
-loop-less-2 : tie.Need-loop-less-2 Inv-loop μ-loop
-loop-less-2 c = search needs
+    let ticked = c .before .before in (
+      search needs,
+      ap (ticks _) (ticked .tick .ensures) ∙ tick-left _ _ (ticked .before .before .if1 .taken) ∙ jump-left _ _ _ (jumping .jump .ensures)
+          ∙ l .inv .1,
+    )
 
 loop-again-2 : tie.Need-loop-again-2 Inv-loop μ-loop
 loop-again-2 c =
@@ -64,16 +55,5 @@ returns c =
 pub pass-spec : {M : Type 1} → statement M
 pass-spec =
     tie.close
-    (tie.spec
-    Inv-loop
-    μ-loop
-    loop-holds
-    jump-requires
-    tick-requires
-    sub-left
-    loop-less
-    loop-again
-    loop-less-2
-    loop-again-2
-    same-length
-    returns)
+    (tie.spec Inv-loop μ-loop loop-holds (λ c κs. search needs) (λ c κs. search needs) (λ c. search needs) loop-less loop-again
+    (λ c. search needs) loop-again-2 same-length returns)

@@ -1,22 +1,10 @@
 -- `bus::calls::quiet_refusal`: AREA, RANGE, DAMAGED, in this order. Assumes nothing.
 use denote.Ref.{now}
-use Rattle.controller.specs.Quiet.{dueIn}
+use Rattle.timing.specs.Quiet.{dueIn}
 use Rattle.bus.proofs.Outcomes.{damaged-pages}
 use borrow.Author.Needs.{needs}
 use Rattle.bus.proofs.calls.quiet_refusal.Statement.{statement}
 use Rattle.bus.proofs.calls.quiet_refusal.Tie as tie
-
-fits-requires : tie.Need-fits-requires
-fits-requires c κs = search needs
-
-due-within-requires : tie.Need-due-within-requires
-due-within-requires c κs = search needs
-
-damaged-due-requires : tie.Need-damaged-due-requires
-damaged-due-requires c κs = search needs
-
-event-refusal-requires : tie.Need-event-refusal-requires
-event-refusal-requires c κs = search needs
 
 returns : tie.Need-returns
 returns c =
@@ -32,9 +20,4 @@ returns c =
 pub quiet-refusal-spec : {M : Type 1} → statement M
 quiet-refusal-spec =
     tie.close
-    (tie.spec
-    fits-requires
-    due-within-requires
-    damaged-due-requires
-    event-refusal-requires
-    returns)
+    (tie.spec (λ c κs. search needs) (λ c κs. search needs) (λ c κs. search needs) (λ c κs. search needs) returns)

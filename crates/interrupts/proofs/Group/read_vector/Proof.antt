@@ -13,12 +13,6 @@ returns : tie.Need-returns
 unfolding vectorRead
 returns c = rw (ap (highest 16) (c .if1 .taken) ∙ highest-zero)
 
-highest-bit-requires : tie.Need-highest-bit-requires
-highest-bit-requires c κs = search needs
-
-shl-self : tie.Need-shl-self
-shl-self c = search needs
-
 sub-self : tie.Need-sub-self
 sub-self c =
     let x = c .before .before .args .self .status in
@@ -26,12 +20,9 @@ sub-self c =
     let set = subst (Found 16 x) (sym (c .highest-bit .ensures .0)) (found 16 x) .1 in
     omega (arith, one-bit r (c .highest-bit .ensures .1), bit-le x r set)
 
-add-t5 : tie.Need-add-t5
-add-t5 c = search needs
-
 returns-2 : tie.Need-returns-2
 unfolding vectorRead
 returns-2 c = rw (one-bit (c .highest-bit .result) (c .highest-bit .ensures .1), ← (c .highest-bit .ensures .0))
 
 pub read-vector-spec : {M : Type 1} → statement M
-read-vector-spec = tie.close (tie.spec returns highest-bit-requires shl-self sub-self add-t5 returns-2)
+read-vector-spec = tie.close (tie.spec returns (λ c κs. search needs) (λ c. search needs) sub-self (λ c. search needs) returns-2)

@@ -4,12 +4,9 @@ use Rattle.interrupts.specs.Group.{maskWritten}
 use Rattle.interrupts.proofs.Group.write_mask.Statement.{statement}
 use Rattle.interrupts.proofs.Group.write_mask.Tie as tie
 
-settle-requires : tie.Need-settle-requires
-settle-requires c κs = search needs
-
 returns : tie.Need-returns
 unfolding maskWritten
 returns c = c .settle .ensures
 
 pub write-mask-spec : {M : Type 1} → statement M
-write-mask-spec = tie.close (tie.spec settle-requires returns)
+write-mask-spec = tie.close (tie.spec (λ c κs. search needs) returns)

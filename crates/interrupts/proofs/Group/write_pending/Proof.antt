@@ -4,12 +4,9 @@ use Rattle.interrupts.specs.Group.{pendingWritten}
 use Rattle.interrupts.proofs.Group.write_pending.Statement.{statement}
 use Rattle.interrupts.proofs.Group.write_pending.Tie as tie
 
-settle-requires : tie.Need-settle-requires
-settle-requires c κs = search needs
-
 returns : tie.Need-returns
 unfolding pendingWritten
 returns c = c .settle .ensures
 
 pub write-pending-spec : {M : Type 1} → statement M
-write-pending-spec = tie.close (tie.spec settle-requires returns)
+write-pending-spec = tie.close (tie.spec (λ c κs. search needs) returns)

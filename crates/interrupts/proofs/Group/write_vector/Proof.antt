@@ -4,12 +4,9 @@ use Rattle.interrupts.specs.Group.{released}
 use Rattle.interrupts.proofs.Group.write_vector.Statement.{statement}
 use Rattle.interrupts.proofs.Group.write_vector.Tie as tie
 
-settle-requires : tie.Need-settle-requires
-settle-requires c κs = search needs
-
 returns : tie.Need-returns
 unfolding released
 returns c = c .settle .ensures
 
 pub write-vector-spec : {M : Type 1} → statement M
-write-vector-spec = tie.close (tie.spec settle-requires returns)
+write-vector-spec = tie.close (tie.spec (λ c κs. search needs) returns)

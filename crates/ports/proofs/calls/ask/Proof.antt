@@ -1,28 +1,10 @@
 -- `ports::calls::ask` answers as defined: from what its callees ensure. Assumes nothing.
 use borrow.Author.Needs.{needs}
 use Rattle.model.specs.Calls.{asked}
-use Rattle.ports.specs.Host.{lent}
+use Rattle.areas.specs.Lent.{lent}
 use Rattle.ports.proofs.Host.{read-number}
 use Rattle.ports.proofs.calls.ask.Statement.{statement}
 use Rattle.ports.proofs.calls.ask.Tie as tie
-
-reach-requires : tie.Need-reach-requires
-reach-requires c κs = search needs
-
-get-requires : tie.Need-get-requires
-get-requires c κs = search needs
-
-get-port-requires : tie.Need-get-port-requires
-get-port-requires c κs = search needs
-
-flags-of-requires : tie.Need-flags-of-requires
-flags-of-requires c κs = search needs
-
-state-of-requires : tie.Need-state-of-requires
-state-of-requires c κs = search needs
-
-pick-answer-requires : tie.Need-pick-answer-requires
-pick-answer-requires c κs = search needs
 
 returns : tie.Need-returns
 unfolding asked
@@ -43,11 +25,5 @@ returns c =
 pub ask-spec : {M : Type 1} → statement M
 ask-spec =
     tie.close
-    (tie.spec
-    reach-requires
-    get-requires
-    get-port-requires
-    flags-of-requires
-    state-of-requires
-    pick-answer-requires
-    returns)
+    (tie.spec (λ c κs. search needs) (λ c κs. search needs) (λ c κs. search needs) (λ c κs. search needs) (λ c κs. search needs)
+    (λ c κs. search needs) returns)

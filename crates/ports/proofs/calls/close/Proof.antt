@@ -2,28 +2,10 @@
 use borrow.Author.Needs.{needs}
 use Rattle.model.specs.Ports.{apply}
 use Rattle.model.specs.Calls.{effect, step}
-use Rattle.ports.specs.Host.{lent}
+use Rattle.areas.specs.Lent.{lent}
 use Rattle.ports.proofs.Host.{close-number, done, refused}
 use Rattle.ports.proofs.calls.close.Statement.{statement}
 use Rattle.ports.proofs.calls.close.Tie as tie
-
-reach-requires : tie.Need-reach-requires
-reach-requires c κs = search needs
-
-get-requires : tie.Need-get-requires
-get-requires c κs = search needs
-
-put-requires : tie.Need-put-requires
-put-requires c κs = search needs
-
-put-port-requires : tie.Need-put-port-requires
-put-port-requires c κs = search needs
-
-same-length : tie.Need-same-length
-same-length c = search needs
-
-same-length-2 : tie.Need-same-length-2
-same-length-2 c = search needs
 
 returns : tie.Need-returns
 unfolding step effect apply
@@ -35,12 +17,6 @@ returns c =
     rw (c .before .before .put-port .ensures, c .before .before .before .before .before .before .put .ensures, found .get .ensures)
     (done _ m (close-number m (a .a)) (tested .reach .ensures) (found .before .before .if1 .taken))
 
-same-length-3 : tie.Need-same-length-3
-same-length-3 c = search needs
-
-same-length-4 : tie.Need-same-length-4
-same-length-4 c = search needs
-
 returns-2 : tie.Need-returns-2
 returns-2 c =
     let a = c .before .before .before .before .before .before .before .before .args in
@@ -50,14 +26,5 @@ returns-2 c =
 pub close-spec : {M : Type 1} → statement M
 close-spec =
     tie.close
-    (tie.spec
-    reach-requires
-    get-requires
-    put-requires
-    put-port-requires
-    same-length
-    same-length-2
-    returns
-    same-length-3
-    same-length-4
-    returns-2)
+    (tie.spec (λ c κs. search needs) (λ c κs. search needs) (λ c κs. search needs) (λ c κs. search needs) (λ c. search needs)
+    (λ c. search needs) returns (λ c. search needs) (λ c. search needs) returns-2)

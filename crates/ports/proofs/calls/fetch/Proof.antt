@@ -1,22 +1,10 @@
 -- `ports::calls::fetch` hands back what is defined: by whether the answer shows words. Assumes nothing.
 use mathlib.Core.Path.{_∙_}
 use borrow.Author.Needs.{needs}
-use Rattle.ports.specs.Host.{lent}
+use Rattle.areas.specs.Lent.{lent}
 use Rattle.ports.proofs.Host.{fetch-shown}
 use Rattle.ports.proofs.calls.fetch.Statement.{statement}
 use Rattle.ports.proofs.calls.fetch.Tie as tie
-
-ask-requires : tie.Need-ask-requires
-ask-requires c κs = search needs
-
-shows-requires : tie.Need-shows-requires
-shows-requires c κs = search needs
-
-get-requires : tie.Need-get-requires
-get-requires c κs = search needs
-
-valid-words-requires : tie.Need-valid-words-requires
-valid-words-requires c κs = search needs
 
 returns : tie.Need-returns
 returns c =
@@ -25,9 +13,6 @@ returns c =
     let m = lent (a .index) (a .ports) (a .page0) (a .page1) in
     let words = fetch-shown m (a .a) (answered .ask .ensures) (c .before .before .before .shows .ensures) in
     (rw (c .before .get .ensures) at (c .valid-words .ensures)) ∙ rw (c .before .before .if1 .taken) at words
-
-slice-aggregate-result : tie.Need-slice-aggregate-result
-slice-aggregate-result c = search needs
 
 returns-2 : tie.Need-returns-2
 returns-2 c =
@@ -38,11 +23,5 @@ returns-2 c =
 pub fetch-spec : {M : Type 1} → statement M
 fetch-spec =
     tie.close
-    (tie.spec
-    ask-requires
-    shows-requires
-    get-requires
-    valid-words-requires
-    returns
-    slice-aggregate-result
+    (tie.spec (λ c κs. search needs) (λ c κs. search needs) (λ c κs. search needs) (λ c κs. search needs) returns (λ c. search needs)
     returns-2)

@@ -3,13 +3,10 @@ use native.Mathlib.Omega.{arith}
 use borrow.Author.Needs.{needs}
 use Rattle.model.specs.Ports.{apply}
 use Rattle.model.specs.Calls.{effect, step}
-use Rattle.ports.specs.Host.{lent}
+use Rattle.areas.specs.Lent.{lent}
 use Rattle.ports.proofs.Host.{open-number, open-accepted, done, refused}
 use Rattle.ports.proofs.calls.open.Statement.{statement}
 use Rattle.ports.proofs.calls.open.Tie as tie
-
-of-open-requires : tie.Need-of-open-requires
-of-open-requires c κs = search needs
 
 open-words-requires : tie.Need-open-words-requires
 open-words-requires c κs =
@@ -17,18 +14,6 @@ open-words-requires c κs =
     let m = lent (a .index) (a .ports) (a .page0) (a .page1) in
     let r = open-accepted m (a .a) (a .p) (a .code) (a .interrupt) (c .before .of-open .ensures) (c .if1 .taken) in
     (omega arith, r .code)
-
-put-requires : tie.Need-put-requires
-put-requires c κs = search needs
-
-put-port-requires : tie.Need-put-port-requires
-put-port-requires c κs = search needs
-
-same-length : tie.Need-same-length
-same-length c = search needs
-
-same-length-2 : tie.Need-same-length-2
-same-length-2 c = search needs
 
 returns : tie.Need-returns
 unfolding step effect apply
@@ -41,12 +26,6 @@ returns c =
     rw (c .before .before .put-port .ensures, c .before .before .before .before .before .before .put .ensures, made .open-words .ensures)
     (done _ m n (tested .of-open .ensures) (made .before .if1 .taken))
 
-same-length-3 : tie.Need-same-length-3
-same-length-3 c = search needs
-
-same-length-4 : tie.Need-same-length-4
-same-length-4 c = search needs
-
 returns-2 : tie.Need-returns-2
 returns-2 c =
     let a = c .before .before .before .before .before .before .before .before .args in
@@ -56,14 +35,5 @@ returns-2 c =
 pub open-spec : {M : Type 1} → statement M
 open-spec =
     tie.close
-    (tie.spec
-    of-open-requires
-    open-words-requires
-    put-requires
-    put-port-requires
-    same-length
-    same-length-2
-    returns
-    same-length-3
-    same-length-4
-    returns-2)
+    (tie.spec (λ c κs. search needs) open-words-requires (λ c κs. search needs) (λ c κs. search needs) (λ c. search needs)
+    (λ c. search needs) returns (λ c. search needs) (λ c. search needs) returns-2)

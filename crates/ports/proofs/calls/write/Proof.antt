@@ -5,28 +5,11 @@ use borrow.Author.Needs.{needs}
 use Rattle.model.specs.Layout.{Areas, areas}
 use Rattle.model.specs.Ports.{filled, apply}
 use Rattle.model.specs.Calls.{effect, step}
-use Rattle.ports.specs.Host.{lent, out}
+use Rattle.areas.specs.Lent.{lent}
+use Rattle.ports.specs.Host.{out}
 use Rattle.ports.proofs.Host.{write-number, done, refused}
 use Rattle.ports.proofs.calls.write.Statement.{statement}
 use Rattle.ports.proofs.calls.write.Tie as tie
-
-of-write-requires : tie.Need-of-write-requires
-of-write-requires c κs = search needs
-
-get-requires : tie.Need-get-requires
-get-requires c κs = search needs
-
-fill-requires : tie.Need-fill-requires
-fill-requires c κs = search needs
-
-same-length : tie.Need-same-length
-same-length c = search needs
-
-same-length-2 : tie.Need-same-length-2
-same-length-2 c = search needs
-
-same-length-3 : tie.Need-same-length-3
-same-length-3 c = search needs
 
 returns : tie.Need-returns
 unfolding step effect apply filled
@@ -40,15 +23,6 @@ returns c =
     ap (λ (x : Areas). out (areas (now (a .index)) (x .ports) (x .page0) (x .page1)) (tested .of-write .result)) (stored .fill .ensures)
     ∙ rw (found .get .ensures) (done _ m n (tested .of-write .ensures) (found .before .if1 .taken))
 
-same-length-4 : tie.Need-same-length-4
-same-length-4 c = search needs
-
-same-length-5 : tie.Need-same-length-5
-same-length-5 c = search needs
-
-same-length-6 : tie.Need-same-length-6
-same-length-6 c = search needs
-
 returns-2 : tie.Need-returns-2
 returns-2 c =
     let a = c .before .before .before .before .before .before .before .before .before .before .args in
@@ -58,15 +32,5 @@ returns-2 c =
 pub write-spec : {M : Type 1} → statement M
 write-spec =
     tie.close
-    (tie.spec
-    of-write-requires
-    get-requires
-    fill-requires
-    same-length
-    same-length-2
-    same-length-3
-    returns
-    same-length-4
-    same-length-5
-    same-length-6
-    returns-2)
+    (tie.spec (λ c κs. search needs) (λ c κs. search needs) (λ c κs. search needs) (λ c. search needs) (λ c. search needs)
+    (λ c. search needs) returns (λ c. search needs) (λ c. search needs) (λ c. search needs) returns-2)

@@ -3,18 +3,6 @@ use borrow.Author.Needs.{needs}
 use Rattle.ports.proofs.refusal.open_out.Statement.{statement}
 use Rattle.ports.proofs.refusal.open_out.Tie as tie
 
-either-requires : tie.Need-either-requires
-either-requires c κs = search needs
-
-either-requires-2 : tie.Need-either-requires-2
-either-requires-2 c κs = search needs
-
-either-requires-3 : tie.Need-either-requires-3
-either-requires-3 c κs = search needs
-
-either-requires-4 : tie.Need-either-requires-4
-either-requires-4 c κs = search needs
-
 returns : tie.Need-returns
 returns c =
     rw (
@@ -27,4 +15,4 @@ returns c =
 pub open-out-spec : {M : Type 1} → statement M
 open-out-spec =
     tie.close
-    (tie.spec either-requires either-requires-2 either-requires-3 either-requires-4 returns)
+    (tie.spec (λ c κs. search needs) (λ c κs. search needs) (λ c κs. search needs) (λ c κs. search needs) returns)

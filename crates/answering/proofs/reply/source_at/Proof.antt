@@ -1,0 +1,14 @@
+-- `reply::source_at` tests number, side and EVER. Assumes nothing.
+use borrow.Author.Needs.{needs}
+use Rattle.answering.proofs.reply.source_at.Statement.{statement}
+use Rattle.answering.proofs.reply.source_at.Tie as tie
+
+returns : tie.Need-returns
+returns c =
+    let seen = c .before .before .before in
+    rw (c .both2 .ensures, c .before .both .ensures, seen .flags-of .ensures, seen .before .get-port .ensures)
+
+pub source-at-spec : {M : Type 1} → statement M
+source-at-spec =
+    tie.close
+    (tie.spec (λ c κs. search needs) (λ c κs. search needs) (λ c κs. search needs) (λ c κs. search needs) returns)

@@ -1,0 +1,12 @@
+-- `ports::layout::flags_of` gives the defined flags, bit by bit. Assumes nothing.
+use mathlib.Core.Path.{refl}
+use Rattle.model.specs.Layout.{bitAt, flagsOf}
+use Rattle.areas.proofs.layout.flags_of.Statement.{statement}
+use Rattle.areas.proofs.layout.flags_of.Tie as tie
+
+returns : tie.Need-returns
+unfolding flagsOf bitAt
+returns c = refl
+
+pub flags-of-spec : {M : Type 1} → statement M
+flags-of-spec = tie.close (tie.spec returns)

@@ -1,0 +1,24 @@
+-- `ports::layout::put_port` leaves the defined port words: from what `put` ensures. Assumes nothing.
+use borrow.Author.Needs.{needs}
+use Rattle.model.specs.Layout.{withWords}
+use Rattle.areas.proofs.layout.put_port.Statement.{statement}
+use Rattle.areas.proofs.layout.put_port.Tie as tie
+
+returns : tie.Need-returns
+unfolding withWords
+returns c =
+    let back4 = c .before .before .before .before in
+    let back8 = back4 .before .before .before .before in
+    let back12 = back8 .before .before .before .before in
+    rw (
+      c .before .before .put4 .ensures,
+      back4 .before .before .put3 .ensures,
+      back8 .before .before .put2 .ensures,
+      back12 .before .before .put .ensures,
+    )
+
+pub put-port-spec : {M : Type 1} → statement M
+put-port-spec =
+    tie.close
+    (tie.spec (λ c. search needs) (λ c κs. search needs) (λ c. search needs) (λ c κs. search needs) (λ c. search needs)
+    (λ c κs. search needs) (λ c. search needs) (λ c κs. search needs) (λ c. search needs) returns)

@@ -1,0 +1,19 @@
+-- `ports::port::valid_words` are the defined words: from what its callees ensure. Assumes nothing.
+use borrow.Author.Needs.{needs}
+use Rattle.areas.proofs.port.valid_words.Statement.{statement}
+use Rattle.areas.proofs.port.valid_words.Tie as tie
+
+returns : tie.Need-returns
+returns c =
+    let back4 = c .before .before .before .before in
+    rw (
+      c .valid-part .ensures,
+      c .before .flags-of .ensures,
+      c .before .before .port-size .ensures,
+      back4 .get-port .ensures,
+    )
+
+pub valid-words-spec : {M : Type 1} → statement M
+valid-words-spec =
+    tie.close
+    (tie.spec (λ c κs. search needs) (λ c κs. search needs) (λ c κs. search needs) (λ c κs. search needs) returns)

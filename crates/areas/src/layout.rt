@@ -1,0 +1,109 @@
+// The areas' words (document 01, "Memory lent to the calls"). Every function is total: past the end of an area a word reads as 0, and a
+// store there does nothing.
+ghost use mathlib.Core.Path.{_≡_};
+ghost use Prim.Native.Nat.{_≤_};
+ghost use lib.ListN.{getD, set};
+ghost use Rattle.model.specs.Layout.{areasFit, wordsAt, withWords, flagsOf, worth, wordOf};
+ghost use Rattle.areas.specs.Lent.{lent};
+use choice::both;
+use model::Faults;
+use model::Flags;
+use model::Words;
+
+// The word at i, 0 past the end.
+pub fn get(s: &[u16], i: usize) -> u16
+    ensures { λ r. ⌜ r ≡ getD (now (s .entry)) i 0 ⌝ }
+{
+    if i < s.len() { s[i] } else { 0 }
+}
+
+// The word at i replaced; nothing past the end.
+pub fn put(s: &mut [u16], i: usize, v: u16)
+    ensures { λ r. ⌜ now (s .exit) ≡ set (now (s .entry)) i v ⌝ }
+{
+    if i < s.len() {
+        s[i] = v;
+    }
+}
+
+// The areas have their lengths.
+pub fn fits(index: &[u16], ports: &[u16], page0: &[u16], page1: &[u16]) -> bool
+    ensures { λ r. ⌜ r ≡ areasFit (lent (index .entry) (ports .entry) (page0 .entry) (page1 .entry)) ⌝ }
+{
+    let tables = both(
+        index.len() == constants::INDEX,
+        ports.len() == constants::PORTS,
+    );
+    both(
+        both(tables, page0.len() == constants::PAGE),
+        page1.len() == constants::PAGE,
+    )
+}
+
+// The four words of port p.
+pub fn get_port(ports: &[u16], p: u16) -> Words
+    ensures { λ r. ⌜ r ≡ wordsAt (now (ports .entry)) p ⌝ }
+{
+    let at = constants::PORT_WORDS * p as usize;
+    Words {
+        master: get(ports, at),
+        flags: get(ports, at + 1),
+        interrupt: get(ports, at + 2),
+        fills: get(ports, at + 3),
+    }
+}
+
+// The four words of port p replaced.
+pub fn put_port(ports: &mut [u16], p: u16, w: Words)
+    ensures { λ r. ⌜ now (ports .exit) ≡ withWords (now (ports .entry)) p w ⌝ }
+{
+    let at = constants::PORT_WORDS * p as usize;
+    put(ports, at, w.master);
+    put(ports, at + 1, w.flags);
+    put(ports, at + 2, w.interrupt);
+    put(ports, at + 3, w.fills);
+}
+
+// Word 1 taken apart; bits above ALO are not looked at.
+pub fn flags_of(x: u16) -> Flags
+    ensures { λ r. ⌜ r ≡ flagsOf x ⌝ }
+{
+    let faults = Faults {
+        sto: x / constants::STO % 2 == 1,
+        terr: x / constants::TERR % 2 == 1,
+        crc: x / constants::CRC % 2 == 1,
+        sqe: x / constants::SQE % 2 == 1,
+        alo: x / constants::ALO % 2 == 1,
+    };
+    Flags {
+        vp: x / constants::VP % 2 == 1,
+        ever: x / constants::EVER % 2 == 1,
+        src: x / constants::SRC % 2 == 1,
+        sink: x / constants::SINK % 2 == 1,
+        faults,
+    }
+}
+
+// A flag's part of the word.
+fn flag_part(b: bool, k: u16) -> u16
+    ensures { λ r. ⌜ (r ≡ worth b k) × (r ≤ k) ⌝ }
+{
+    if b { k } else { 0 }
+}
+
+// Word 1 put together; the bits above ALO are zero.
+pub fn word_of(f: Flags) -> u16
+    ensures { λ r. ⌜ r ≡ wordOf f ⌝ }
+{
+    let s = f.faults;
+    let sides = flag_part(f.vp, constants::VP)
+        + flag_part(f.ever, constants::EVER)
+        + flag_part(f.src, constants::SRC)
+        + flag_part(f.sink, constants::SINK);
+    sides
+        + flag_part(s.sto, constants::STO)
+        + flag_part(s.terr, constants::TERR)
+        + flag_part(s.crc, constants::CRC)
+        + flag_part(s.sqe, constants::SQE)
+        + flag_part(s.alo, constants::ALO)
+}

@@ -1,0 +1,79 @@
+// Document 01's numbers, each in one place: the refusals by name, the ranges of arguments, the times, and the shape of the areas. A wrong
+// number is refused where the code that uses it is proved against the definition that has it.
+
+// What callers are told; 0 is no refusal.
+pub const AREA: u16 = 1;
+
+pub const RANGE: u16 = 2;
+
+pub const NOPORT: u16 = 3;
+
+pub const TAKEN: u16 = 4;
+
+pub const SIDE: u16 = 5;
+
+pub const DAMAGED: u16 = 6;
+
+// Addresses are 0 to 4095, ports 1 to 255, the F-codes of ports 0 to 4, data transfer interrupts 1 to 7, or 0 for none.
+pub const LAST_ADDRESS: u16 = 4095;
+
+pub const LAST_PORT: u16 = 255;
+
+pub const LAST_CODE: u16 = 4;
+
+pub const LAST_INTERRUPT: u16 = 7;
+
+// Quiet time is 0 to 65,535 bit times.
+pub const LAST_QUIET: u32 = 65535;
+
+// The reply time of a fresh controller, and the two timeouts, 1.30 and 1.42 ms, in bit times.
+pub const FIRST_REPLY_TIME: u16 = 64;
+
+pub const BUS_TIMEOUT: u16 = 1950;
+
+pub const LINE_TIMEOUT: u16 = 2130;
+
+// Where EC stops.
+pub const LAST_EC: u16 = 65535;
+
+// The F-code of a status poll.
+pub const STATUS_CODE: u16 = 15;
+
+// The lengths of the index table, of the port words and of a page.
+pub const INDEX: usize = 4096;
+
+pub const PORTS: usize = 1024;
+
+pub const PAGE: usize = 4096;
+
+// A port has four port words, and owns sixteen words of each page.
+pub const PORT_WORDS: usize = 4;
+
+pub const PAGE_WORDS: usize = 16;
+
+// A master word is F-code x 4096 + address.
+pub const CODE_UNIT: u16 = 4096;
+
+// Fills are counted modulo 65,536.
+pub const FILLS: u32 = 65536;
+
+// The weights of the flags in word 1, and of the first bit that is always zero.
+pub const VP: u16 = 1;
+
+pub const EVER: u16 = 2;
+
+pub const SRC: u16 = 4;
+
+pub const SINK: u16 = 8;
+
+pub const STO: u16 = 16;
+
+pub const TERR: u16 = 32;
+
+pub const CRC: u16 = 64;
+
+pub const SQE: u16 = 128;
+
+pub const ALO: u16 = 256;
+
+pub const ZERO_BITS: u16 = 512;

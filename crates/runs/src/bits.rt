@@ -1,0 +1,32 @@
+// Numbers out of other numbers, for all inputs.
+use frames::Kind;
+ghost use Prim.Native.Nat.{_≤_};
+
+pub(crate) fn least(a: usize, b: usize) -> usize
+    ensures { λ r. ⌜ (r ≤ a) × (r ≤ b) ⌝ }
+{
+    if a < b { a } else { b }
+}
+
+pub(crate) fn low16(n: u32) -> u16 {
+    (n % 65536) as u16
+}
+
+pub(crate) fn low8(n: u32) -> u8 {
+    (n % 256) as u8
+}
+
+// 1 for true, 0 for false.
+pub(crate) fn bit(b: bool) -> u16 {
+    if b { 1 } else { 0 }
+}
+
+// Silence is 0, noise 1, a master frame 2 and a slave frame 3.
+pub(crate) fn kind_of(n: u16) -> Kind {
+    match n {
+        1 => Kind::Noise,
+        2 => Kind::Master,
+        3 => Kind::Slave,
+        _ => Kind::Silence,
+    }
+}

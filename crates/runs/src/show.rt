@@ -1,0 +1,204 @@
+// What controller and areas hold.
+//
+// `state` is the exchange with its master word, the time since the last sound master frame and the line count, the reply times chosen and
+// adopted, the line state, the counts, each group (pending, mask, status, frozen) and the device (address, whether a status word is set, the
+// word). `port A` is the entry of address A and the four words of that port, `pages A` its part of each page. `areas` is a sum of each area,
+// in which each word at each place counts. `same` says whether all of that is as it was at the last `mark`.
+use crate::bits::bit;
+use crate::bits::least;
+use crate::line::is;
+use crate::say;
+use areas::layout::get;
+use model::Controller;
+use model::Exchange;
+
+// How many numbers a controller is.
+const NUMBERS: usize = 23;
+
+// A sum is a remainder modulo this prime; each word before counts this factor more than the next.
+const PRIME: u64 = 2147483647;
+
+const FACTOR: u64 = 65599;
+
+fn stage(x: Exchange) -> u16 {
+    match x {
+        Exchange::Idle => 0,
+        Exchange::Waiting(_) => 1,
+        Exchange::Done => 2,
+    }
+}
+
+fn awaited(x: Exchange) -> u16 {
+    match x {
+        Exchange::Idle => 0,
+        Exchange::Waiting(w) => w,
+        Exchange::Done => 0,
+    }
+}
+
+fn numbers_of(c: Controller) -> [u16; NUMBERS] {
+    let x = c.exchange;
+    let t = c.times;
+    let l = c.lines;
+    let n = c.counts;
+    let g = c.group0;
+    let h = c.group1;
+    let d = c.device;
+    [
+        stage(x),
+        awaited(x),
+        t.since,
+        t.line,
+        t.chosen,
+        t.adopted,
+        bit(l.laa),
+        bit(l.rld),
+        bit(l.ls),
+        bit(l.slm),
+        n.fc,
+        n.ec,
+        g.pending,
+        g.mask,
+        g.status,
+        bit(g.frozen),
+        h.pending,
+        h.mask,
+        h.status,
+        bit(h.frozen),
+        d.address,
+        bit(d.set),
+        d.status,
+    ]
+}
+
+// The sum of what was summed before and one more word.
+fn add(sum: u64, w: u16) -> u64 {
+    (sum % PRIME * FACTOR + w as u64) % PRIME
+}
+
+fn sum(before: u64, s: &[u16]) -> u64 {
+    let mut all = before;
+    let mut i: usize = 0;
+    while i < s.len() {
+        all = add(all, s[i]);
+        i += 1;
+    }
+    all
+}
+
+// The sum of controller and areas.
+fn whole(index: &[u16], ports: &[u16], page0: &[u16], page1: &[u16], c: Controller) -> u64 {
+    let n = numbers_of(c);
+    sum(sum(sum(sum(sum(0, &n), index), ports), page0), page1)
+}
+
+fn exchange(x: Exchange) {
+    match x {
+        Exchange::Idle => say::text(b"state idle"),
+        Exchange::Waiting(w) => say::named(b"state waiting ", w),
+        Exchange::Done => say::text(b"state done"),
+    }
+}
+
+fn state(c: Controller) {
+    let n = numbers_of(c);
+    let x = c.exchange;
+    exchange(x);
+    say::text(b" times");
+    say::each(&n[2..6]);
+    say::text(b" lines");
+    say::each(&n[6..10]);
+    say::text(b" counts");
+    say::each(&n[10..12]);
+    say::text(b" group");
+    say::each(&n[12..16]);
+    say::text(b" group");
+    say::each(&n[16..20]);
+    say::text(b" device");
+    say::each(&n[20..23]);
+    say::end();
+}
+
+fn port(index: &[u16], ports: &[u16], a: u16) {
+    let e = get(index, a as usize);
+    let at = e as usize * 4;
+    say::named(b"port ", e);
+    say::named(b" ", get(ports, at));
+    say::named(b" ", get(ports, at + 1));
+    say::named(b" ", get(ports, at + 2));
+    say::named(b" ", get(ports, at + 3));
+    say::end();
+}
+
+// Port p's words of a page, as far as there are any.
+fn part(page: &[u16], p: u16) -> &[u16] {
+    let at = p as usize * 16;
+    let start = least(at, page.len());
+    let end = least(at + 16, page.len());
+    if start <= end {
+        &page[start..end]
+    } else {
+        &page[..0]
+    }
+}
+
+fn pages(index: &[u16], page0: &[u16], page1: &[u16], a: u16) {
+    let p = get(index, a as usize);
+    say::text(b"pages");
+    say::each(part(page0, p));
+    say::text(b" /");
+    say::each(part(page1, p));
+    say::end();
+}
+
+fn areas(index: &[u16], ports: &[u16], page0: &[u16], page1: &[u16]) {
+    say::text(b"areas ");
+    say::number(sum(0, index));
+    say::text(b" ");
+    say::number(sum(0, ports));
+    say::text(b" ");
+    say::number(sum(0, page0));
+    say::text(b" ");
+    say::number(sum(0, page1));
+    say::end();
+}
+
+fn compared(mark: u64, now: u64) {
+    if mark == now {
+        say::text(b"same\n");
+    } else {
+        say::text(b"changed\n");
+    }
+}
+
+// What command k wants shown, of address a; and the mark, which a line `mark` sets anew.
+pub(crate) fn run(
+    index: &[u16],
+    ports: &[u16],
+    page0: &[u16],
+    page1: &[u16],
+    c: Controller,
+    mark: u64,
+    k: u64,
+    a: u16,
+) -> u64 {
+    if is(k, b"state") {
+        state(c);
+    }
+    if is(k, b"port") {
+        port(index, ports, a);
+    }
+    if is(k, b"pages") {
+        pages(index, page0, page1, a);
+    }
+    if is(k, b"areas") {
+        areas(index, ports, page0, page1);
+    }
+    if is(k, b"same") {
+        compared(mark, whole(index, ports, page0, page1, c));
+    }
+    if is(k, b"mark") {
+        return whole(index, ports, page0, page1, c);
+    }
+    mark
+}

@@ -1,0 +1,3 @@
+pub mod BitTime
+pub mod Jump
+pub mod Within
