@@ -4,8 +4,8 @@
 usage: make.py            write both files, and say how many lines they have
        make.py --check    write nothing; exit with 1 where a file is not what would be written
 
-The cases stand in py/: host.py, bus.py, lines.py, damage.py and interrupts.py. What is to be printed comes from py/controller.py, which is
-written from document 01 and from nothing of the crates that the program runs.
+The cases stand in py/: host.py, quiet.py, bus.py, lines.py, damage.py and interrupts.py. What is to be printed comes from
+py/controller.py and py/world.py, which are written from document 01 and from nothing of the crates that the program runs.
 """
 import os
 import sys
@@ -19,6 +19,7 @@ import damage
 import host
 import interrupts
 import lines
+import quiet
 from script import Script
 
 # What the program reads at most.
@@ -28,7 +29,7 @@ LIMIT = 65536
 def files():
     """The two files' contents."""
     script = Script()
-    for subject in (host, bus, lines, damage, interrupts):
+    for subject in (host, quiet, bus, lines, damage, interrupts):
         subject.run(script)
     made = {name: "".join(line + "\n" for line in getattr(script, name)).encode("ascii") for name in ("stdin", "stdout")}
     assert len(made["stdin"]) <= LIMIT, "the script has %d bytes" % len(made["stdin"])

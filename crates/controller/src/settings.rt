@@ -59,7 +59,7 @@ pub fn set_status(c: Controller, w: u16) -> Controller
 }
 
 // Reply times: 32, 64, 96, 128.
-fn is_reply_time(t: u16) -> bool
+pub fn is_reply_time(t: u16) -> bool
     ensures { λ r. ⌜ r ≡ isReplyTime t ⌝ }
 {
     either(either(either(t == 32, t == 64), t == 96), t == 128)

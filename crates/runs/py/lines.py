@@ -95,7 +95,8 @@ def rule_3(s):
 
 def rule_4(s):
     frame = master(1)
-    observed = [silence(), noise(), master(1, sqe=True), master(1, violation=True), master(1, alo=True), master(2), master(1, checks=[0]), slave()]
+    observed = [silence(), noise(), master(1, sqe=True), master(1, violation=True), master(1, alo=True)]
+    observed += [master(2), master(1, checks=[0]), slave()]
     for at, hearing in enumerate(observed):
         for laa in (True, False):
             prepare(s, "Rule 4: observed line with hearing %d" % at, laa, False, False)

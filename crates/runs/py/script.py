@@ -1,6 +1,7 @@
-"""A script for the program, with what must be printed of it: each method writes a line of stdin, has the controller of controller.py do
+"""A script for the program, with what must be printed of it: each method writes a line of stdin, has the controller of world.py do
 the same, and writes the lines of stdout that this gives."""
-from controller import Controller, Group, Hearing, World
+from controller import BUS_TIMEOUT, Controller, Group, Hearing
+from world import World
 
 # What the program takes the sum of an area with.
 PRIME, FACTOR = 2147483647, 65599
@@ -35,16 +36,17 @@ def written(hearing):
 
 def numbers_of(c):
     """The controller as `state` prints it. The time since the last sound master frame counts up to the bus timeout."""
-    exchange = "waiting %d" % c.waiting if c.exchange == "waiting" else c.exchange
+    stage = ("idle", "waiting", "done").index(c.exchange)
     parts = [
-        ("times", [min(c.since, 1950), c.line_count, c.chosen, c.adopted]),
+        ("exchange", [stage, c.waiting if stage == 1 else 0]),
+        ("times", [min(c.since, BUS_TIMEOUT), c.line_count, c.chosen, c.adopted]),
         ("lines", [int(mark) for mark in (c.laa, c.rld, c.ls, c.slm)]),
         ("counts", [c.fc, c.ec]),
         ("group", c.groups[0].numbers()),
         ("group", c.groups[1].numbers()),
         ("device", [c.address, int(c.status is not None), c.status or 0]),
     ]
-    return exchange + "".join(" " + name + spaced(numbers) for name, numbers in parts)
+    return "".join(" " + name + spaced(numbers) for name, numbers in parts)
 
 
 def sum_of(area):
@@ -201,7 +203,7 @@ class Script:
 
     def state(self):
         self.tell("state")
-        self.expect("state " + numbers_of(self.world.controller))
+        self.expect("state" + numbers_of(self.world.controller))
 
     def port(self, address):
         self.tell("port %d" % address)

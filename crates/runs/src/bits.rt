@@ -1,5 +1,4 @@
 // Numbers out of other numbers, for all inputs.
-use frames::Kind;
 ghost use Prim.Native.Nat.{_≤_};
 
 pub(crate) fn least(a: usize, b: usize) -> usize
@@ -19,14 +18,4 @@ pub(crate) fn low8(n: u32) -> u8 {
 // 1 for true, 0 for false.
 pub(crate) fn bit(b: bool) -> u16 {
     if b { 1 } else { 0 }
-}
-
-// Silence is 0, noise 1, a master frame 2 and a slave frame 3.
-pub(crate) fn kind_of(n: u16) -> Kind {
-    match n {
-        1 => Kind::Noise,
-        2 => Kind::Master,
-        3 => Kind::Slave,
-        _ => Kind::Silence,
-    }
 }

@@ -1,10 +1,8 @@
 // A line of the script, read byte by byte. Whatever the bytes are, a line comes of them.
-use crate::bits::kind_of;
 use crate::bits::low8;
 use crate::bits::low16;
 use choice::either;
 use choice::pick;
-use frames::Hearing;
 
 // How many of a line's numbers before the slash are kept, the first ones: an address and more words than any port has.
 pub(crate) const KEPT: usize = 20;
@@ -174,39 +172,4 @@ pub(crate) fn line_of(text: &[u8]) -> Line {
         i += 1;
     }
     end_token(l, b' ')
-}
-
-// What the line says that is heard.
-pub(crate) fn hearing_of(l: Line) -> Hearing {
-    let w = l.words;
-    let checks = l.checks;
-    let words = [
-        w[0],
-        w[1],
-        w[2],
-        w[3],
-        w[4],
-        w[5],
-        w[6],
-        w[7],
-        w[8],
-        w[9],
-        w[10],
-        w[11],
-        w[12],
-        w[13],
-        w[14],
-        w[15],
-    ];
-    let kind = kind_of(l.kind);
-    Hearing {
-        kind,
-        words,
-        size: l.size,
-        checks,
-        ends: l.ends,
-        sqe: l.sqe,
-        violation: l.violation,
-        alo: l.alo,
-    }
 }

@@ -21,9 +21,13 @@
 mod bits;
 mod events;
 mod groups;
+mod hearing;
+mod lent;
 mod line;
+mod numbers;
 mod port_calls;
 mod say;
+mod script;
 mod settings;
 mod show;
 mod step;
@@ -44,5 +48,5 @@ fn main() {
         say::text(b"input too long\n");
         return;
     }
-    step::run(&buffer[..n]);
+    script::run(&buffer[..n]);
 }

@@ -1,75 +1,21 @@
 // What controller and areas hold.
 //
-// `state` is the exchange with its master word, the time since the last sound master frame and the line count, the reply times chosen and
-// adopted, the line state, the counts, each group (pending, mask, status, frozen) and the device (address, whether a status word is set, the
-// word). `port A` is the entry of address A and the four words of that port, `pages A` its part of each page. `areas` is a sum of each area,
-// in which each word at each place counts. `same` says whether all of that is as it was at the last `mark`.
-use crate::bits::bit;
+// `state` is the exchange (0 idle, 1 waiting, 2 done) with the master word that is waited for, the time since the last sound master frame,
+// the line count, the reply times chosen and adopted, the line state, the counts, each group (pending, mask, status, frozen) and the device
+// (address, whether a status word is set, the word). `port A` is the entry of address A and the four words of that port, `pages A` its part
+// of each page. `areas` is a sum of each area, in which each word at each place counts. `same` says whether all of that is as it was at the
+// last `mark`.
 use crate::bits::least;
 use crate::line::is;
+use crate::numbers::numbers_of;
 use crate::say;
 use areas::layout::get;
 use model::Controller;
-use model::Exchange;
-
-// How many numbers a controller is.
-const NUMBERS: usize = 23;
 
 // A sum is a remainder modulo this prime; each word before counts this factor more than the next.
 const PRIME: u64 = 2147483647;
 
 const FACTOR: u64 = 65599;
-
-fn stage(x: Exchange) -> u16 {
-    match x {
-        Exchange::Idle => 0,
-        Exchange::Waiting(_) => 1,
-        Exchange::Done => 2,
-    }
-}
-
-fn awaited(x: Exchange) -> u16 {
-    match x {
-        Exchange::Idle => 0,
-        Exchange::Waiting(w) => w,
-        Exchange::Done => 0,
-    }
-}
-
-fn numbers_of(c: Controller) -> [u16; NUMBERS] {
-    let x = c.exchange;
-    let t = c.times;
-    let l = c.lines;
-    let n = c.counts;
-    let g = c.group0;
-    let h = c.group1;
-    let d = c.device;
-    [
-        stage(x),
-        awaited(x),
-        t.since,
-        t.line,
-        t.chosen,
-        t.adopted,
-        bit(l.laa),
-        bit(l.rld),
-        bit(l.ls),
-        bit(l.slm),
-        n.fc,
-        n.ec,
-        g.pending,
-        g.mask,
-        g.status,
-        bit(g.frozen),
-        h.pending,
-        h.mask,
-        h.status,
-        bit(h.frozen),
-        d.address,
-        bit(d.set),
-        d.status,
-    ]
-}
 
 // The sum of what was summed before and one more word.
 fn add(sum: u64, w: u16) -> u64 {
@@ -92,30 +38,32 @@ fn whole(index: &[u16], ports: &[u16], page0: &[u16], page1: &[u16], c: Controll
     sum(sum(sum(sum(sum(0, &n), index), ports), page0), page1)
 }
 
-fn exchange(x: Exchange) {
-    match x {
-        Exchange::Idle => say::text(b"state idle"),
-        Exchange::Waiting(w) => say::named(b"state waiting ", w),
-        Exchange::Done => say::text(b"state done"),
+// The name of what begins with number i of a controller.
+fn label(i: usize) {
+    match i {
+        0 => say::text(b" exchange"),
+        2 => say::text(b" times"),
+        6 => say::text(b" lines"),
+        10 => say::text(b" counts"),
+        12 | 16 => say::text(b" group"),
+        20 => say::text(b" device"),
+        _ => {}
+    }
+}
+
+fn labelled(n: &[u16]) {
+    let mut i: usize = 0;
+    while i < n.len() {
+        label(i);
+        say::named(b" ", n[i]);
+        i += 1;
     }
 }
 
 fn state(c: Controller) {
     let n = numbers_of(c);
-    let x = c.exchange;
-    exchange(x);
-    say::text(b" times");
-    say::each(&n[2..6]);
-    say::text(b" lines");
-    say::each(&n[6..10]);
-    say::text(b" counts");
-    say::each(&n[10..12]);
-    say::text(b" group");
-    say::each(&n[12..16]);
-    say::text(b" group");
-    say::each(&n[16..20]);
-    say::text(b" device");
-    say::each(&n[20..23]);
+    say::text(b"state");
+    labelled(&n);
     say::end();
 }
 

@@ -1,14 +1,15 @@
 -- `runs::events::repeated` is safe and ends: the measure is how often the event is still to come. The areas keep their lengths.
 -- Assumes nothing.
 use mathlib.Core.Path.{_≡_}
-use Prim.Native.Nat.{_≤_, _-_}
+use Prim.Native.Nat.{_-_}
 use borrow.Author.Needs.{needs}
 use lib.ListN.{length}
 use Rattle.runs.proofs.events.repeated.Statement.{statement}
 use Rattle.runs.proofs.events.repeated.Tie as tie
 
 abbrev Inv-loop : tie.InvT-loop
-Inv-loop index ports₀ page0₀ page1₀ a b n d₀ i₀ ports page0 page1 d i = (i ≤ n) × ((length ports ≡ length ports₀) × ((length page0 ≡ length page0₀) × (length page1 ≡ length page1₀)))
+Inv-loop index ports₀ page0₀ page1₀ a b n d₀ i₀ ports page0 page1 d i =
+    (length ports ≡ length ports₀) × (length page0 ≡ length page0₀) × (length page1 ≡ length page1₀)
 
 abbrev μ-loop : tie.MeasureT-loop
 μ-loop index ports₀ page0₀ page1₀ a b n d₀ i₀ ports page0 page1 d i = n - i

@@ -1,0 +1,88 @@
+-- Texts cut at the first byte b, in the terms of the code: by how many bytes stand before it. Assumes nothing.
+use Prim.Native.Nat.{ℕ, zero, suc, _+_, _<_, _≤_}
+use mathlib.Core.Path.{_≡_, refl, _∙_, ap}
+use mathlib.Core.Bool.{Bool, true, false, cond, _&&_}
+use mathlib.Core.List.{List, [], _∷_}
+use native.Mathlib.Numerals.{add-one}
+use native.Mathlib.Omega.{arith}
+use borrow.Author.Tests.{lt-ltb, le-ltb}
+use lib.Dec.{eqb, ltb, leb·suc-suc}
+use lib.ListN.{length, getD, take, drop, drop-of-length-le}
+use lib.Seq.{drop-cons}
+use Rattle.digits.specs.Cut.{before, after, has, until, same}
+
+-- ---- the search, byte by byte
+
+pub until-here : (t : List ℕ) (b i : ℕ) → i < length t → eqb (getD t i 0) b ≡ true → until b (drop i t) ≡ 0
+unfolding until
+until-here t b i h e = rw (drop-cons t i 0 h, e)
+
+pub until-on : (t : List ℕ) (b i : ℕ) → i < length t → eqb (getD t i 0) b ≡ false → until b (drop i t) ≡ suc (until b (drop (i + 1) t))
+unfolding until
+until-on t b i h e = rw (drop-cons t i 0 h, e, add-one i)
+
+pub until-end : (t : List ℕ) (b i : ℕ) → length t ≤ i → until b (drop i t) ≡ 0
+unfolding until
+until-end t b i h = rw (drop-of-length-le t h)
+
+-- ---- the parts by their lengths
+
+pub until-within : (b : ℕ) (t : List ℕ) → until b t ≤ length t
+unfolding until
+until-within b [] = omega arith
+until-within b (c ∷ cs) = go (eqb c b) (until-within b cs)
+  where
+    go : (e : Bool) → until b cs ≤ length cs → cond e zero (suc (until b cs)) ≤ suc (length cs)
+    go true h = omega arith
+    go false h = omega arith
+
+pub take-until : (b : ℕ) (t : List ℕ) → take (until b t) t ≡ before b t
+unfolding until before
+take-until b [] = refl
+take-until b (c ∷ cs) = go (eqb c b) (take-until b cs)
+  where
+    go : (e : Bool) → take (until b cs) cs ≡ before b cs → take (cond e zero (suc (until b cs))) (c ∷ cs) ≡ cond e [] (c ∷ before b cs)
+    go true h = refl
+    go false h = rw h
+
+pub drop-until : (b : ℕ) (t : List ℕ) → drop (suc (until b t)) t ≡ after b t
+unfolding until after
+drop-until b [] = refl
+drop-until b (c ∷ cs) = go (eqb c b) (drop-until b cs)
+  where
+    go : (e : Bool) → drop (suc (until b cs)) cs ≡ after b cs
+        → drop (suc (cond e zero (suc (until b cs)))) (c ∷ cs) ≡ cond e cs (after b cs)
+    go true h = refl
+    go false h = h
+
+pub has-until : (b : ℕ) (t : List ℕ) → ltb (until b t) (length t) ≡ has b t
+unfolding until has
+has-until b [] = le-ltb 0 0 (omega arith)
+has-until b (c ∷ cs) = go (eqb c b) (has-until b cs)
+  where
+    go : (e : Bool) → ltb (until b cs) (length cs) ≡ has b cs
+        → ltb (cond e zero (suc (until b cs))) (suc (length cs)) ≡ cond e true (has b cs)
+    go true h = lt-ltb 0 (suc (length cs)) (omega arith)
+    go false h = leb·suc-suc (suc (until b cs)) (length cs) ∙ h
+
+-- ---- two texts, byte by byte
+
+pub same-longer : (t s : List ℕ) → (length t ≡ length s → ⊥) → same t s ≡ false
+unfolding same
+same-longer [] [] h = absurd (h refl)
+same-longer [] (d ∷ ds) h = refl
+same-longer (c ∷ cs) [] h = refl
+same-longer (c ∷ cs) (d ∷ ds) h = go (eqb c d) (same-longer cs ds (λ e. h (ap suc e)))
+  where
+    go : (e : Bool) → same cs ds ≡ false → (e && same cs ds) ≡ false
+    go true r = r
+    go false r = refl
+
+pub same-on : (t s : List ℕ) (i : ℕ) → i < length t → i < length s
+    → same (drop i t) (drop i s) ≡ (eqb (getD t i 0) (getD s i 0) && same (drop (i + 1) t) (drop (i + 1) s))
+unfolding same
+same-on t s i h k = rw (drop-cons t i 0 h, drop-cons s i 0 k, add-one i)
+
+pub same-end : (t s : List ℕ) (i : ℕ) → length t ≤ i → length s ≤ i → same (drop i t) (drop i s) ≡ true
+unfolding same
+same-end t s i h k = rw (drop-of-length-le t h, drop-of-length-le s k)

@@ -1,0 +1,62 @@
+-- `cut::find` counts the bytes before the first b. The loop's invariant: the bytes passed and those that are still to be passed give all
+-- of them. Assumes nothing.
+use Prim.Native.Nat.{_+_, _-_, _≤_}
+use mathlib.Core.Path.{_≡_}
+use denote.Ref.{now}
+use lib.ListN.{length, drop}
+use Rattle.digits.specs.Cut.{until}
+use Rattle.digits.proofs.Cutting.{until-here, until-on, until-end}
+use native.Mathlib.Omega.{arith}
+use borrow.Author.Needs.{needs}
+use Rattle.digits.proofs.cut.find.Statement.{statement}
+use Rattle.digits.proofs.cut.find.Tie as tie
+
+abbrev Inv-loop : tie.InvT-loop
+Inv-loop t b i₀ i = (i ≤ length t) × (i + until b (drop i t) ≡ until b t)
+
+abbrev μ-loop : tie.MeasureT-loop
+μ-loop t b i₀ i = length t - i
+
+loop-holds : tie.Need-loop-holds Inv-loop μ-loop
+loop-holds c = (search needs, omega arith)
+
+shared-slice-read-found : tie.Need-shared-slice-read-found Inv-loop μ-loop
+shared-slice-read-found c = search needs
+
+returns : tie.Need-returns Inv-loop μ-loop
+returns c =
+    let a = c .before .before .before .before .args in
+    let h = until-here (now (a .t)) (a .b) (c .before .before .before .loop .i) (c .before .before .loop-test .taken) (c .if1 .taken) in
+    omega arith
+
+add-i : tie.Need-add-i Inv-loop μ-loop
+add-i c = search needs
+
+loop-less : tie.Need-loop-less Inv-loop μ-loop
+loop-less c = search needs
+
+loop-again : tie.Need-loop-again Inv-loop μ-loop
+loop-again c =
+    let a = c .before .before .before .before .args in
+    let h = until-on (now (a .t)) (a .b) (c .before .before .before .loop .i) (c .before .before .loop-test .taken) (c .if1 .left) in
+    (search needs, omega arith)
+
+returns-2 : tie.Need-returns-2 Inv-loop μ-loop
+returns-2 c =
+    let a = c .before .before .args in
+    let h = until-end (now (a .t)) (a .b) (c .before .loop .i) (c .loop-test .left) in
+    omega arith
+
+pub find-spec : {M : Type 1} → statement M
+find-spec =
+    tie.close
+    (tie.spec
+    Inv-loop
+    μ-loop
+    loop-holds
+    shared-slice-read-found
+    returns
+    add-i
+    loop-less
+    loop-again
+    returns-2)

@@ -1,0 +1,16 @@
+-- `read::byte` goes by whether the number is above the last one. Assumes nothing.
+use borrow.Author.Needs.{needs}
+use Rattle.digits.proofs.read.byte.Statement.{statement}
+use Rattle.digits.proofs.read.byte.Tie as tie
+
+cast-result : tie.Need-cast-result
+cast-result c = search needs
+
+returns : tie.Need-returns
+returns c = rw (c .if1 .taken)
+
+returns-2 : tie.Need-returns-2
+returns-2 c = rw (c .if1 .left)
+
+pub byte-spec : {M : Type 1} → statement M
+byte-spec = tie.close (tie.spec cast-result returns returns-2)

@@ -1,0 +1,28 @@
+-- `read::number` is the one number of a list of one. Assumes nothing.
+use mathlib.Core.Path.{sym, _∙_}
+use Rattle.digits.specs.Read.{numberIn}
+use Rattle.digits.proofs.Items.{alone, not-alone}
+use borrow.Author.Needs.{needs}
+use Rattle.digits.proofs.read.number.Statement.{statement}
+use Rattle.digits.proofs.read.number.Tie as tie
+
+slice-aggregate-numbers : tie.Need-slice-aggregate-numbers
+slice-aggregate-numbers c = search needs
+
+numbers-requires : tie.Need-numbers-requires
+numbers-requires c κs = search needs
+
+both-requires : tie.Need-both-requires
+both-requires c κs = search needs
+
+returns : tie.Need-returns
+unfolding numberIn
+returns c = alone _ _ _ _ (c .before .before .before .before .numbers .ensures) (sym (c .before .both .ensures) ∙ c .if1 .taken)
+
+returns-2 : tie.Need-returns-2
+unfolding numberIn
+returns-2 c = not-alone _ _ _ _ (c .before .before .before .before .numbers .ensures) (sym (c .before .both .ensures) ∙ c .if1 .left)
+
+pub number-spec : {M : Type 1} → statement M
+number-spec =
+    tie.close (tie.spec slice-aggregate-numbers numbers-requires both-requires returns returns-2)

@@ -1,0 +1,26 @@
+-- `read::numbers` is an empty list for an empty text. Assumes nothing.
+use denote.Ref.{now}
+use Rattle.digits.specs.Read.{largest}
+use Rattle.digits.proofs.Items.{numbers-empty, numbers-some}
+use borrow.Author.Needs.{needs}
+use Rattle.digits.proofs.read.numbers.Statement.{statement}
+use Rattle.digits.proofs.read.numbers.Tie as tie
+
+returns : tie.Need-returns
+unfolding largest
+returns c = rw (numbers-empty (now (c .before .before .before .args .t)) (c .if1 .taken))
+
+items-requires : tie.Need-items-requires
+items-requires c κs = search needs
+
+same-length : tie.Need-same-length
+same-length c = search needs
+
+returns-2 : tie.Need-returns-2
+returns-2 c =
+    let p4 = c .before .before .before .before in
+    let p7 = p4 .before .before .before in
+    rw (numbers-some (now (p7 .args .t)) (p4 .if1 .left)) (c .before .before .items .ensures)
+
+pub numbers-spec : {M : Type 1} → statement M
+numbers-spec = tie.close (tie.spec returns items-requires same-length returns-2)

@@ -1,0 +1,24 @@
+-- `setting_calls::tolvendrum_set_ls` meets its contract: its parts are what the callees ensure. Assumes nothing.
+use Rattle.firmware.specs.Promise.{setThrough}
+use Rattle.controller.specs.Settings.{told}
+use Rattle.firmware.proofs.setting_calls.tolvendrum_set_ls.Statement.{statement}
+use Rattle.firmware.proofs.setting_calls.tolvendrum_set_ls.Tie as tie
+
+returns : tie.Need-returns
+unfolding setThrough told
+returns c =
+    rw (
+      c .flat-told .ensures,
+      c .before .both .ensures,
+      c .before .before .is-bit .ensures,
+      c .before .before .before .is-ours .ensures,
+      c .before .before .before .before .made .ensures,
+      c .before .before .before .before .before .set-ls .ensures,
+      c .before .before .before .before .before .before .is-set .ensures,
+      c .before .before .before .before .before .before .before .controller-of .ensures,
+    )
+
+pub tolvendrum-set-ls-spec : {M : Type 1} → statement M
+tolvendrum-set-ls-spec =
+    tie.close
+    (tie.spec (λ c κs. tt) (λ c κs. tt) (λ c κs. tt) (λ c κs. tt) (λ c κs. tt) (λ c κs. tt) (λ c κs. tt) (λ c κs. tt) returns)

@@ -1,0 +1,24 @@
+-- `setting_calls::tolvendrum_set_slm` meets its contract: its parts are what the callees ensure. Assumes nothing.
+use Rattle.firmware.specs.Promise.{setThrough}
+use Rattle.controller.specs.Settings.{told}
+use Rattle.firmware.proofs.setting_calls.tolvendrum_set_slm.Statement.{statement}
+use Rattle.firmware.proofs.setting_calls.tolvendrum_set_slm.Tie as tie
+
+returns : tie.Need-returns
+unfolding setThrough told
+returns c =
+    rw (
+      c .flat-told .ensures,
+      c .before .both .ensures,
+      c .before .before .is-bit .ensures,
+      c .before .before .before .is-ours .ensures,
+      c .before .before .before .before .made .ensures,
+      c .before .before .before .before .before .set-slm .ensures,
+      c .before .before .before .before .before .before .is-set .ensures,
+      c .before .before .before .before .before .before .before .controller-of .ensures,
+    )
+
+pub tolvendrum-set-slm-spec : {M : Type 1} → statement M
+tolvendrum-set-slm-spec =
+    tie.close
+    (tie.spec (λ c κs. tt) (λ c κs. tt) (λ c κs. tt) (λ c κs. tt) (λ c κs. tt) (λ c κs. tt) (λ c κs. tt) (λ c κs. tt) returns)

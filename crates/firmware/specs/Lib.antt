@@ -1,0 +1,5 @@
+pub mod Flags
+pub mod Controller
+pub mod Hearing
+pub mod Promise
+pub mod Kept

@@ -1,0 +1,152 @@
+// The host's calls on ports (document 01, "Host calls on ports"). The number of a refusal comes back, 0 where the call was accepted.
+ghost use mathlib.Core.Path.{_≡_};
+ghost use Rattle.model.specs.Calls.{openPort, closePort, writePort, asked, refusalOf};
+ghost use Rattle.areas.specs.Lent.{lent};
+ghost use Rattle.ports.specs.Host.{out, hostCall};
+ghost use Rattle.firmware.specs.Flags.{isBit, isSet};
+ghost use Rattle.firmware.specs.Promise.{openThrough, answerNumber, fetching};
+use crate::Fetched;
+use crate::Number;
+use crate::away::away_number;
+use crate::flags::is_bit;
+use crate::flags::is_set;
+use areas::store;
+use model::Answer;
+use ports::calls;
+
+// Opens port p at address a, as a sink (1) or a source (0) of this F-code, with a data transfer interrupt or 0.
+#[no_mangle]
+pub extern "C" fn tolvendrum_open(
+    index: &mut [u16],
+    ports: &mut [u16],
+    page0: &[u16],
+    page1: &[u16],
+    a: u16,
+    p: u16,
+    code: u16,
+    sink: u16,
+    interrupt: u16,
+) -> u16
+    ensures { λ r. ⌜
+        out (lent (index .exit) (ports .exit) (page0 .entry) (page1 .entry)) r ≡
+        openThrough (isBit sink) (openPort a p code (isSet sink) interrupt)
+        (lent (index .entry) (ports .entry) (page0 .entry) (page1 .entry))
+        ⌝ }
+{
+    let given = is_bit(sink);
+    if given {
+        return calls::open(
+            index,
+            ports,
+            page0,
+            page1,
+            a,
+            p,
+            code,
+            is_set(sink),
+            interrupt,
+        );
+    }
+    away_number(index, ports, page0, page1)
+}
+
+// Closes the port at address a.
+#[no_mangle]
+pub extern "C" fn tolvendrum_close(
+    index: &mut [u16],
+    ports: &mut [u16],
+    page0: &[u16],
+    page1: &[u16],
+    a: u16,
+) -> u16
+    ensures { λ r. ⌜
+        out (lent (index .exit) (ports .exit) (page0 .entry) (page1 .entry)) r ≡
+        hostCall (closePort a) (lent (index .entry) (ports .entry) (page0 .entry) (page1 .entry))
+        ⌝ }
+{
+    calls::close(index, ports, page0, page1, a)
+}
+
+// Writes to the source at address a, in its exact size.
+#[no_mangle]
+pub extern "C" fn tolvendrum_write(
+    index: &[u16],
+    ports: &mut [u16],
+    page0: &mut [u16],
+    page1: &mut [u16],
+    a: u16,
+    words: &[u16],
+) -> u16
+    ensures { λ r. ⌜
+        out (lent (index .entry) (ports .exit) (page0 .exit) (page1 .exit)) r ≡
+        hostCall (writePort a (now (words .entry))) (lent (index .entry) (ports .entry) (page0 .entry) (page1 .entry))
+        ⌝ }
+{
+    calls::write(index, ports, page0, page1, a, words)
+}
+
+fn answer_number(x: Answer) -> Number
+    ensures { λ r. ⌜ r ≡ answerNumber x ⌝ }
+{
+    match x {
+        Answer::Never => Number {
+            refusal: 0,
+            value: 0,
+        },
+        Answer::Good => Number {
+            refusal: 0,
+            value: 1,
+        },
+        Answer::Held => Number {
+            refusal: 0,
+            value: 2,
+        },
+        Answer::Refused(n) => Number {
+            refusal: n,
+            value: 0,
+        },
+    }
+}
+
+// Asks for the state of the port at address a: 0 never, 1 good, 2 held.
+#[no_mangle]
+pub extern "C" fn tolvendrum_ask(
+    index: &[u16],
+    ports: &[u16],
+    page0: &[u16],
+    page1: &[u16],
+    a: u16,
+) -> Number
+    ensures { λ r. ⌜ r ≡ answerNumber (asked (lent (index .entry) (ports .entry) (page0 .entry) (page1 .entry)) a) ⌝ }
+{
+    answer_number(calls::ask(index, ports, page0, page1, a))
+}
+
+// The number of a refusal, 0 for any other answer.
+fn refusal_of(x: Answer) -> u16
+    ensures { λ r. ⌜ r ≡ refusalOf x ⌝ }
+{
+    answer_number(x).refusal
+}
+
+// The valid words of the port at address a, copied out; none exactly when asking refuses or answers never.
+#[no_mangle]
+pub extern "C" fn tolvendrum_fetch<'a>(
+    index: &[u16],
+    ports: &[u16],
+    page0: &'a [u16],
+    page1: &'a [u16],
+    a: u16,
+) -> Fetched
+    ensures { λ r. ⌜ r ≡ fetching (lent (index .entry) (ports .entry) (page0 .entry) (page1 .entry)) a ⌝ }
+{
+    let refusal = refusal_of(calls::ask(index, ports, page0, page1, a));
+    let part = calls::fetch(index, ports, page0, page1, a);
+    let mut words = [0u16; 16];
+    store::copy(&mut words, 0, part);
+    Fetched {
+        refusal,
+        size: part.len() as u16,
+        words,
+    }
+}

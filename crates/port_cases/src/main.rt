@@ -1,0 +1,56 @@
+// Many inputs of the port program in one run: each file that an argument names is one input, and after what is printed of it stands a line
+// `--`. The inputs and what must be printed of them are written by make.py, from document 01 alone.
+//
+// No function here promises anything of its result; all are proved to be safe and to end.
+use libc::STDOUT_FILENO;
+
+const ROOM: usize = 65536;
+
+// Whether the file goes on after a full buffer.
+fn goes_on(fd: i32) -> bool {
+    let mut one = [0u8; 1];
+    let n = io::read_full(fd, &mut one);
+    0 < n
+}
+
+fn answer(input: &[u8]) {
+    let mut out = io::large_buffer();
+    let n = session::run::run(input, &mut out);
+    if n <= ROOM {
+        io::write_all(STDOUT_FILENO, &out[..n]);
+        return;
+    }
+    io::write_all(STDOUT_FILENO, b"output too long\n");
+}
+
+fn run_file(fd: i32) {
+    let mut input = io::large_buffer();
+    let n = io::read_full(fd, &mut input);
+    if goes_on(fd) {
+        io::write_all(STDOUT_FILENO, b"input too long\n");
+        return;
+    }
+    answer(&input[..n]);
+}
+
+fn run_argument(i: usize) {
+    let mut path = io::buffer();
+    let n = os::arg(i, &mut path);
+    let fd = os::open_read(&path[..n]);
+    if fd < 0 {
+        os::fail(&path[..n]);
+        return;
+    }
+    run_file(fd);
+    io::write_all(STDOUT_FILENO, b"--\n");
+    libc::close(fd);
+}
+
+fn main() {
+    let count = os::arg_count();
+    let mut i: usize = 1;
+    while i < count {
+        run_argument(i);
+        i += 1;
+    }
+}

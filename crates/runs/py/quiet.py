@@ -1,0 +1,120 @@
+"""Quiet time: the reply time, the bus timeout and the line timeout."""
+from script import master, noise, silence, slave
+
+
+def reply_times(s):
+    for time in (64, 32, 96, 128):
+        for quiet in (time - 1, time):
+            s.begin("Reply time %d: quiet %d after a master frame, then a slave frame" % (time, quiet))
+            s.mask(0, 65535)
+            s.open(1, 1, 0)
+            if time != 64:
+                s.reply_time(time)
+            s.event(master(1))
+            s.quiet(quiet)
+            s.state()
+            s.event(slave(2))
+            s.state()
+            s.read(1)
+            s.port(1)
+    s.begin("A reply time that is chosen takes effect at the next sound master frame")
+    s.mask(0, 65535)
+    s.open(1, 1, 0)
+    s.event(master(1))
+    s.reply_time(32)
+    s.quiet(63)
+    s.state()
+    s.event(master(2, checks=[0]))
+    s.state()
+    s.event(master(1))
+    s.reply_time(128)
+    s.quiet(31)
+    s.state()
+    s.quiet(1)
+    s.state()
+    s.port(1)
+    s.begin("A timeout marks STO alone among the status bits, of a filled and of an unfilled sink; data and fills stay")
+    s.open(1, 1, 1)
+    for _ in range(2):
+        s.event(master(4097))
+        s.quiet(64)
+        s.port(1)
+        s.read(1)
+        s.exchange(4097, 7, 8)
+        s.port(1)
+        s.event(master(4097))
+        s.event(slave(7, checks=[0], sqe=True, alo=True))
+        s.port(1)
+    s.event(master(4097))
+    s.quiet(65535)
+    s.port(1)
+    s.state()
+    s.begin("A timeout leaves a source, a sink of another F-code and other ports alone")
+    s.mask(0, 65535)
+    s.open(1, 1, 1, sink=False)
+    s.open(2, 2, 1)
+    s.open(3, 3, 0)
+    for word in (4097, 2, 4099, 5):
+        s.event(master(word))
+        s.quiet(64)
+        s.state()
+    s.areas()
+
+
+def timeouts(s):
+    s.begin("BTI at 1950, once; line switches at 2130 and 4260")
+    s.mask(0, 65535)
+    for quiet in (1949, 1, 179, 1, 2129, 1, 5000, 65535, 0):
+        s.quiet(quiet)
+        s.state()
+    s.write_status(0, 0)
+    s.quiet(65535)
+    s.state()
+    s.event(master(1))
+    s.state()
+    s.quiet(1949)
+    s.state()
+    s.quiet(1)
+    s.state()
+    s.begin("The same with SLM: no switch and no RLD")
+    s.mask(0, 65535)
+    s.single(1)
+    for quiet in (1949, 1, 179, 1, 2129, 1, 5000):
+        s.quiet(quiet)
+        s.state()
+    s.begin("An unsound master frame, a slave frame, silence and noise stop neither time")
+    s.mask(0, 65535)
+    s.single(1)
+    s.quiet(1000)
+    for hearing in (master(1, checks=[0]), slave(1), silence(), noise()):
+        s.event(hearing)
+        s.state()
+    s.quiet(950)
+    s.state()
+    s.quiet(180)
+    s.state()
+    for parts in ((4300,), (64, 4236), (1, 62, 1, 1886, 1, 179, 1, 2129, 1, 40), (100,) * 43):
+        s.begin("4300 quiet bit times after a master frame, in %d calls" % len(parts))
+        s.mask(0, 65535)
+        s.open(1, 1, 0)
+        s.quiet(10)
+        s.event(master(1))
+        s.switch(1)
+        for quiet in parts:
+            s.quiet(quiet)
+        s.state()
+        s.areas()
+    s.begin("Bit by bit around each deadline")
+    s.mask(0, 65535)
+    s.open(1, 1, 0)
+    s.event(master(1))
+    for start, steps in ((62, 3), (1883, 4), (177, 4)):
+        s.quiet(start)
+        for _ in range(steps):
+            s.quiet(1)
+            s.state()
+
+
+def run(s):
+    reply_times(s)
+    timeouts(s)

@@ -1,0 +1,250 @@
+"""The controller with the four lent areas: the host's calls on ports, bus events and quiet time, from document 01 as controller.py is."""
+import copy
+
+from controller import BTI, BUS_TIMEOUT, CRC, DMF, DSF, EMF, ESF, EVER, LINE_TIMEOUT, REPLY_TIMES, RTI, SFC, SINK, SIZES, SQE, SRC
+from controller import ALO, STATUS_BITS, STO, TERR, VP, Controller, checks_of
+
+AREA, RANGE, NOPORT, TAKEN, SIDE, DAMAGED = 1, 2, 3, 4, 5, 6
+
+
+class Refused(Exception):
+    """A refusal's number."""
+
+
+class World:
+    """The controller and the four areas. `lengths` are those that the calls find; the areas here keep their own."""
+
+    def __init__(self):
+        self.controller = Controller()
+        self.index = [0] * 4096
+        self.ports = [0] * 1024
+        self.pages = [[0] * 4096, [0] * 4096]
+        self.lengths = (4096, 1024, 4096, 4096)
+        self.reply = None
+
+    def called(self, call, *arguments):
+        """The answer of a call: 0 or what it answers, or its refusal's number. "A refusal returns its number and no reply, and leaves
+        controller and areas unchanged." """
+        kept = self.held()
+        self.reply = None
+        try:
+            return call(*arguments) or 0
+        except Refused as refusal:
+            self.controller, self.index, self.ports, self.pages = kept
+            self.reply = None
+            return refusal.args[0]
+
+    def held(self):
+        """A copy of the controller and the areas."""
+        return copy.deepcopy(self.controller), self.index[:], self.ports[:], [page[:] for page in self.pages]
+
+    # The memory lent to the calls.
+
+    def demand(self, fact, number):
+        if not fact:
+            raise Refused(number)
+
+    def areas_fit(self):
+        self.demand(self.lengths == (4096, 1024, 4096, 4096), AREA)
+
+    def well_formed(self, address, port):
+        """ "Port words are well formed if word 0 has F-code at most 4 and the sought address, exactly one of SRC and SINK is set, the zero
+        bits are zero, and word 2 is at most 7." """
+        master, flags, interrupt, _ = self.ports[4 * port : 4 * port + 4]
+        one_side = bool(flags & SRC) != bool(flags & SINK)
+        return master // 4096 <= 4 and master % 4096 == address and one_side and flags < 512 and interrupt <= 7
+
+    def port_at(self, address):
+        """The port number of an address, 0 for none. Damage is refused."""
+        port = self.index[address]
+        self.demand(port <= 255, DAMAGED)
+        self.demand(port == 0 or self.well_formed(address, port), DAMAGED)
+        return port
+
+    def port_for(self, word, side):
+        """The port of a master word's address if it has this side and this very master word, otherwise 0. "they need an entry only for
+        codes 0 to 4" """
+        if word // 4096 > 4:
+            return 0
+        port = self.port_at(word % 4096)
+        return port if port and self.ports[4 * port] == word and self.ports[4 * port + 1] & side else 0
+
+    def size_of(self, port):
+        return SIZES[self.ports[4 * port] // 4096]
+
+    def valid_words(self, port):
+        page = self.pages[self.ports[4 * port + 1] & VP]
+        return page[16 * port : 16 * port + self.size_of(port)]
+
+    def fill(self, port, words):
+        """ "copy to the page that is not valid, turn VP, set EVER, clear the status bits, add one fill" """
+        flags = (self.ports[4 * port + 1] ^ VP | EVER) & ~STATUS_BITS
+        self.pages[flags & VP][16 * port : 16 * port + len(words)] = words
+        self.ports[4 * port + 1] = flags
+        self.ports[4 * port + 3] = (self.ports[4 * port + 3] + 1) % 65536
+
+    def mark(self, port, bits):
+        """Exactly these of the status bits are set."""
+        self.ports[4 * port + 1] = self.ports[4 * port + 1] & ~STATUS_BITS | bits
+
+    # "Host calls on ports". "Order: 1, 2, 6 for the entry, 3 or 4, 6 for the port words (not on opening), 5, 2 for the size of a write."
+
+    def open(self, address, port, code, sink, interrupt):
+        self.areas_fit()
+        self.demand(address <= 4095 and 1 <= port <= 255 and code <= 4 and interrupt <= 7, RANGE)
+        self.demand(self.index[address] <= 255, DAMAGED)
+        self.demand(self.index[address] == 0 and self.ports[4 * port + 1] == 0, TAKEN)
+        self.index[address] = port
+        self.ports[4 * port : 4 * port + 4] = [code * 4096 + address, SINK if sink else SRC, interrupt, 0]
+
+    def reach(self, address):
+        self.areas_fit()
+        self.demand(address <= 4095, RANGE)
+        port = self.index[address]
+        self.demand(port <= 255, DAMAGED)
+        self.demand(port != 0, NOPORT)
+        self.demand(self.well_formed(address, port), DAMAGED)
+        return port
+
+    def close(self, address):
+        """ "Close zeroes entry and port words; pages stay." """
+        port = self.reach(address)
+        self.index[address] = 0
+        self.ports[4 * port : 4 * port + 4] = [0, 0, 0, 0]
+
+    def write(self, address, words):
+        port = self.reach(address)
+        self.demand(self.ports[4 * port + 1] & SRC, SIDE)
+        self.demand(len(words) == self.size_of(port), RANGE)
+        self.fill(port, list(words))
+
+    def ask(self, address):
+        """ "Asking answers never, good, or held (filled, but STO or TERR set), or a refusal." """
+        flags = self.ports[4 * self.reach(address) + 1]
+        if not flags & EVER:
+            return "never"
+        return "held" if flags & (STO | TERR) else "good"
+
+    def fetch(self, address):
+        """ "it is empty exactly when asking refuses or answers never" """
+        if self.called(self.ask, address) in ("good", "held"):
+            return self.valid_words(self.index[address])
+        return []
+
+    # The host's settings.
+
+    def set_address(self, address):
+        self.demand(address <= 4095, RANGE)
+        self.controller.address = address
+
+    def set_reply_time(self, time):
+        self.demand(time in REPLY_TIMES, RANGE)
+        self.controller.chosen = time
+
+    # "What one bus event does".
+
+    def hear(self, a, b):
+        self.areas_fit()
+        self.demand(a.in_range() and b.in_range(), RANGE)
+        c = self.controller
+        trusted, observed = (a, b) if c.laa else (b, a)
+        rule_1_acted = polled = False
+        if trusted.kind == "master" and not trusted.sound(1):
+            rule_1_acted = self.unsound_master()
+        elif trusted.kind == "master":
+            polled = self.sound_master(trusted.words[0])
+        elif trusted.kind == "slave" and c.exchange == "waiting":
+            rule_1_acted = self.awaited_slave(trusted)
+        elif trusted.kind == "slave":
+            self.stray_slave()
+        if not rule_1_acted:
+            c.line_rule_4(trusted, observed)
+        if polled:
+            c.line_rule_3()
+
+    def unsound_master(self):
+        """ "Unsound master: EMF; idle." """
+        c = self.controller
+        c.count(sound=False)
+        c.raise_bit(EMF)
+        c.exchange = "idle"
+        return c.line_rule_1()
+
+    def sound_master(self, word):
+        """Answers whether this was a status poll to our address."""
+        c = self.controller
+        code, address = word // 4096, word % 4096
+        source = self.port_for(word, SRC)
+        polled = code == 15 and address == c.address
+        c.count(sound=True)
+        if c.exchange == "waiting" and c.waiting == word:
+            c.raise_bit(DMF)
+        c.since = c.line_count = 0
+        c.adopted = c.chosen
+        if code not in SIZES:
+            c.exchange = "idle"
+        elif source and self.ports[4 * source + 1] & EVER:
+            self.answer(self.valid_words(source))
+        elif polled and c.status is not None:
+            self.answer([c.status])
+        else:
+            c.exchange, c.waiting = "waiting", word
+        return polled
+
+    def answer(self, words):
+        self.reply = (words, checks_of(words))
+        self.controller.exchange = "done"
+
+    def awaited_slave(self, frame):
+        """Answers whether line rule 1 acted."""
+        c = self.controller
+        code = c.waiting // 4096
+        sink = self.port_for(c.waiting, SINK)
+        sound = frame.sound(SIZES[code])
+        c.count(sound)
+        c.exchange = "done"
+        c.raise_bit(SFC)
+        if sound:
+            if sink:
+                self.fill(sink, frame.words)
+                if self.ports[4 * sink + 2]:
+                    c.raise_bit(2 ** (self.ports[4 * sink + 2] - 1))
+            return False
+        c.raise_bit(ESF)
+        if sink:
+            wrong = frame.counts_right(SIZES[code]) and frame.checks != checks_of(frame.words)
+            self.mark(sink, TERR | (CRC if wrong else 0) | (SQE if frame.sqe else 0) | (ALO if frame.alo else 0))
+        return c.line_rule_1(code)
+
+    def stray_slave(self):
+        """ "SFC; DSF too if done and less than the reply time has passed since the last sound master. Not judged." """
+        c = self.controller
+        c.raise_bit(SFC)
+        if c.exchange == "done" and c.since < c.adopted:
+            c.raise_bit(DSF)
+
+    # "Quiet time".
+
+    def quiet(self, bit_times):
+        self.areas_fit()
+        self.demand(bit_times <= 65535, RANGE)
+        for _ in range(bit_times):
+            self.bit_time()
+
+    def bit_time(self):
+        c = self.controller
+        c.since += 1
+        c.line_count += 1
+        if c.exchange == "waiting" and c.since == c.adopted:
+            sink = self.port_for(c.waiting, SINK)
+            if sink:
+                self.mark(sink, STO)
+            c.raise_bit(RTI)
+            c.exchange = "idle"
+            c.line_rule_1(c.waiting // 4096)
+        if c.since == BUS_TIMEOUT:
+            c.raise_bit(BTI)
+        if c.line_count == LINE_TIMEOUT:
+            c.switch(sets_rld=True)
+            c.line_count = 0
+        c.line_rule_5()

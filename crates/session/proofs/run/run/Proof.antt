@@ -1,0 +1,52 @@
+-- `run::run` lends cleared areas, and the text stands in the buffer as far as there is room. Assumes nothing.
+use Prim.Native.Nat.{_≤_}
+use mathlib.Core.Path.{_∙_}
+use denote.Ref.{now}
+use lib.ListN.{length}
+use Rattle.digits.specs.Write.{lastPlace}
+use Rattle.digits.proofs.Pasting.{onto-pasted}
+use Rattle.model.specs.Calls.{clearedAreas, start}
+use Rattle.session.specs.Printed.{printed}
+use native.Mathlib.Omega.{arith}
+use borrow.Author.Needs.{needs}
+use Rattle.session.proofs.run.run.Statement.{statement}
+use Rattle.session.proofs.run.run.Tie as tie
+
+slice-aggregate-lines : tie.Need-slice-aggregate-lines
+slice-aggregate-lines c = search needs
+
+slice-aggregate-lines-2 : tie.Need-slice-aggregate-lines-2
+slice-aggregate-lines-2 c = search needs
+
+slice-aggregate-lines-3 : tie.Need-slice-aggregate-lines-3
+slice-aggregate-lines-3 c = search needs
+
+slice-aggregate-lines-4 : tie.Need-slice-aggregate-lines-4
+slice-aggregate-lines-4 c = search needs
+
+lines-requires : tie.Need-lines-requires
+lines-requires c κs = search needs
+
+same-length : tie.Need-same-length
+same-length c = search needs
+
+returns : tie.Need-returns
+unfolding printed start clearedAreas
+returns c =
+    let p6 = c .before .before .before .before .before .before in
+    let p14 = p6 .before .before .before .before .before .before .before .before in
+    let a = p14 .args in
+    let h : length (now (a .out)) ≤ lastPlace = omega arith in
+    p6 .lines .ensures ∙ onto-pasted (now (a .out)) (printed (now (a .input))) h
+
+pub run-spec : {M : Type 1} → statement M
+run-spec =
+    tie.close
+    (tie.spec
+    slice-aggregate-lines
+    slice-aggregate-lines-2
+    slice-aggregate-lines-3
+    slice-aggregate-lines-4
+    lines-requires
+    same-length
+    returns)

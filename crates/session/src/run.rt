@@ -1,0 +1,123 @@
+// The whole input.
+ghost use mathlib.Core.Path.{_≡_};
+ghost use Prim.Native.Nat.{_<_, _≤_};
+ghost use lib.ListN.{length, drop};
+ghost use Rattle.digits.specs.Cut.{before, after};
+ghost use Rattle.digits.specs.Write.{paper, onto, pasted};
+ghost use Rattle.model.specs.Event.{world};
+ghost use Rattle.model.specs.Host.{freshController};
+ghost use Rattle.areas.specs.Lent.{lent};
+ghost use Rattle.session.specs.Meaning.{freshSetup, state};
+ghost use Rattle.session.specs.Printed.{lines, endText, printedFrom, printed};
+use crate::Setup;
+use crate::calls;
+use crate::step;
+use controller::settings;
+use digits::cut;
+use text::report;
+use text::say;
+
+// At the start an address is due.
+fn fresh_setup() -> Setup
+    ensures { λ r. ⌜ r ≡ freshSetup ⌝ }
+{
+    Setup {
+        stage: 0,
+        addr: 0,
+        code: 0,
+        sink: false,
+    }
+}
+
+// At the end: the open ports; a port that is described in part is refused.
+fn finish<'a>(
+    index: &[u16],
+    ports: &[u16],
+    page0: &'a [u16],
+    page1: &'a [u16],
+    out: &mut [u8],
+    u: Setup,
+    at: usize,
+) -> usize
+    ensures { λ r. ⌜
+        paper (now (out .exit)) r ≡
+        onto (paper (now (out .entry)) at) (endText u (lent (index .entry) (ports .entry) (page0 .entry) (page1 .entry)))
+        ⌝ }
+{
+    let whole = calls::is_whole(u);
+    if whole {
+        return report::put_report(index, ports, page0, page1, out, at);
+    }
+    say::put_refused(out, at, calls::TEXT)
+}
+
+// The line that begins at i.
+fn line_at<'a>(input: &'a [u8], i: usize) -> &'a [u8]
+    requires { ⌜ i ≤ length (now input) ⌝ }
+    ensures { λ r. ⌜ now r ≡ before 10 (drop i (now (input .entry))) ⌝ }
+{
+    cut::before(&input[i..], b'\n')
+}
+
+// Where the line after it begins.
+fn next_line(input: &[u8], i: usize) -> usize
+    requires { ⌜ i < length (now input) ⌝ }
+    ensures { λ r. ⌜
+        (drop r (now (input .entry)) ≡ after 10 (drop i (now (input .entry)))) × (i < r) × (r ≤ length (now (input .entry)))
+        ⌝ }
+{
+    let n = cut::find(&input[i..], b'\n');
+    let end = i + n;
+    if end < input.len() {
+        return end + 1;
+    }
+    end
+}
+
+// Every line in turn, up to the first refusal.
+fn lines(
+    index: &mut [u16],
+    ports: &mut [u16],
+    page0: &mut [u16],
+    page1: &mut [u16],
+    out: &mut [u8],
+    input: &[u8],
+) -> usize
+    ensures { λ r. ⌜
+        paper (now (out .exit)) r ≡
+        onto (paper (now (out .entry)) 0)
+        (printedFrom (lines (now (input .entry)))
+        (state freshSetup (world freshController (lent (index .entry) (ports .entry) (page0 .entry) (page1 .entry)))))
+        ⌝ }
+{
+    let mut c = settings::reset();
+    let mut u = fresh_setup();
+    let mut at: usize = 0;
+    let mut i: usize = 0;
+    while i < input.len() {
+        let s = step::step(index, ports, page0, page1, out, c, u, at, line_at(input, i));
+        let no = s.refusal;
+        at = s.at;
+        let ok = no == 0;
+        if ok {
+            c = s.controller;
+            u = s.setup;
+            i = next_line(input, i);
+        } else {
+            return say::put_refused(out, at, no);
+        }
+    }
+    finish(index, ports, page0, page1, out, u, at)
+}
+
+// What the port program prints of its input goes into the buffer, as far as there is room; the length of all of it comes back, or the
+// largest number that there is.
+pub fn run(input: &[u8], out: &mut [u8]) -> usize
+    ensures { λ r. ⌜ paper (now (out .exit)) r ≡ pasted (now (out .entry)) (printed (now (input .entry))) ⌝ }
+{
+    let mut index = [0u16; 4096];
+    let mut ports = [0u16; 1024];
+    let mut page0 = [0u16; 4096];
+    let mut page1 = [0u16; 4096];
+    lines(&mut index, &mut ports, &mut page0, &mut page1, out, input)
+}

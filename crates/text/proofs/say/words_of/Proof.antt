@@ -1,0 +1,52 @@
+-- `say::words_of` is each byte as a word. Assumes nothing.
+use mathlib.Core.Path.{_≡_}
+use lib.ListN.{length}
+use Rattle.text.proofs.Frames.{four}
+use borrow.Author.Needs.{needs}
+use Rattle.text.proofs.say.words_of.Statement.{statement}
+use Rattle.text.proofs.say.words_of.Tie as tie
+
+array-read-wide : tie.Need-array-read-wide
+array-read-wide c = search needs
+
+wide-requires : tie.Need-wide-requires
+wide-requires c κs = search needs
+
+array-read-wide-2 : tie.Need-array-read-wide-2
+array-read-wide-2 c = search needs
+
+wide-requires-2 : tie.Need-wide-requires-2
+wide-requires-2 c κs = search needs
+
+array-read-wide-3 : tie.Need-array-read-wide-3
+array-read-wide-3 c = search needs
+
+wide-requires-3 : tie.Need-wide-requires-3
+wide-requires-3 c κs = search needs
+
+array-read-wide-4 : tie.Need-array-read-wide-4
+array-read-wide-4 c = search needs
+
+wide-requires-4 : tie.Need-wide-requires-4
+wide-requires-4 c κs = search needs
+
+returns : tie.Need-returns
+returns c =
+    let bytes = c .before .before .before .before .args .t1 in
+    let h : length bytes ≡ 4 = search needs in
+    rw (c .wide4 .ensures, c .before .wide3 .ensures, c .before .before .wide2 .ensures, c .before .before .before .wide .ensures)
+    (four bytes h)
+
+pub words-of-spec : {M : Type 1} → statement M
+words-of-spec =
+    tie.close
+    (tie.spec
+    array-read-wide
+    wide-requires
+    array-read-wide-2
+    wide-requires-2
+    array-read-wide-3
+    wide-requires-3
+    array-read-wide-4
+    wide-requires-4
+    returns)

@@ -1,0 +1,119 @@
+-- Document 01, "Numbers on either side": what a line of the port program's input says. Assumes nothing.
+use Prim.Native.Nat.{ℕ}
+use mathlib.Core.Bool.{Bool, true, false, cond, not, _&&_, _||_}
+use mathlib.Core.List.{List}
+use lib.Dec.{eqb, leb}
+use lib.ListN.{length, take, replicate}
+use lib.Seq.{sets}
+use Rattle.digits.specs.declared.Number.{Number}
+use Rattle.digits.specs.declared.Number.the-variants.{Value, Malformed}
+use Rattle.digits.specs.Cut.{before, after, has, same}
+use Rattle.digits.specs.Read.{cut, Numbers, numbersIn, numberIn, largest}
+use Rattle.frames.specs.declared.Kind.{Kind}
+use Rattle.frames.specs.declared.Kind.the-variants.{Master as MasterFrame, Slave as SlaveFrame}
+use Rattle.frames.specs.declared.Hearing.{Hearing}
+use Rattle.model.specs.Event.{padded}
+use Rattle.text.specs.declared.Frame.{Frame}
+use Rattle.text.specs.declared.Key.{Key}
+use Rattle.text.specs.declared.Key.the-variants.{Addr, Fcode, Dir, Index, Master, Slave, Quiet, Write, Unknown}
+use Rattle.text.specs.Words.{wAddr, wFcode, wDir, wIndex, wMaster, wSlave, wQuiet, wWrite, wSink, wSource}
+
+pub data Line : Type 0 where
+  -- the setup lines of a port
+  addr fcode index : (n : ℕ) → Line
+  dir : (sink : Bool) → Line
+  -- an event that both lines hear alike, and quiet bit times
+  frame : (h : Hearing) → Line
+  quiet : (n : ℕ) → Line
+  -- the host writes words to an address
+  write : (a : ℕ) (ws : List ℕ) → Line
+  malformed : Line
+
+-- the key is what stands before `=`, exactly
+unfoldable pub keyOf : List ℕ → Key
+keyOf k =
+    cond (same k wAddr) Addr
+    (cond (same k wFcode) Fcode
+    (cond (same k wDir) Dir
+    (cond (same k wIndex) Index
+    (cond (same k wMaster) Master
+    (cond (same k wSlave) Slave (cond (same k wQuiet) Quiet (cond (same k wWrite) Write Unknown)))))))
+
+-- ---- what stands after `=`
+
+-- a number alone
+abbrev pub numbered : (ℕ → Line) → Number → Line
+numbered f (Value n) = f n
+numbered f Malformed = malformed
+
+-- sink or source
+unfoldable pub dirOf : List ℕ → Line
+dirOf v = cond (same v wSink) (dir true) (cond (same v wSource) (dir false) malformed)
+
+-- a list of numbers of which none is above the limit
+abbrev pub below : ℕ → Numbers → Bool
+below limit n = n .good && leb (largest 0 (n .values)) limit
+
+-- two lists with the byte b between; a master frame has one number in each
+abbrev pub firstOf : ℕ → List ℕ → Numbers
+firstOf b v = numbersIn (before b v)
+
+abbrev pub secondOf : ℕ → List ℕ → Numbers
+secondOf b v = numbersIn (after b v)
+
+abbrev pub onePair : Numbers → Numbers → Bool
+onePair x y = eqb (length (x .values)) 1 && eqb (length (y .values)) 1
+
+-- words and check bytes; a number above its word or byte is malformed
+unfoldable pub isFrame : Bool → ℕ → List ℕ → Bool
+isFrame one b v =
+    has b v && below 65535 (firstOf b v) && below 255 (secondOf b v) && (not one || onePair (firstOf b v) (secondOf b v))
+
+-- the frame as a line hears it, without a quality mark; with more words or check bytes than a hearing has room for it is out of range
+unfoldable pub hearingOf : Kind → List ℕ → List ℕ → Hearing
+hearingOf kind ws cs =
+    record {
+      kind = kind;
+      words = padded ws;
+      size = length ws;
+      checks = sets (replicate 4 0) 0 cs;
+      ends = length cs;
+      sqe = false;
+      violation = false;
+      alo = false;
+    }
+
+unfoldable pub frameOf : Kind → Bool → ℕ → List ℕ → Line
+frameOf kind one b v = cond (isFrame one b v) (frame (hearingOf kind (firstOf b v .values) (secondOf b v .values))) malformed
+
+-- a frame that was read, if its line is well formed
+abbrev pub framed : Frame → Line
+framed f = cond (f .good) (frame (f .hearing)) malformed
+
+-- no port has more than sixteen words, so of the words of a write seventeen are kept: they fit no port, as more would not
+abbrev pub kept : List ℕ → List ℕ
+kept ws = take 17 ws
+
+-- an address and words; an address above 65,535 is out of range as the largest word is
+abbrev pub written : Number → List ℕ → Line
+written a ws = numbered (λ (n : ℕ). write (cut 65535 n) ws) a
+
+-- an address, `;` and words
+unfoldable pub writeOf : List ℕ → Line
+writeOf v = cond (has 59 v && below 65535 (secondOf 59 v)) (written (numberIn (before 59 v)) (kept (secondOf 59 v .values))) malformed
+
+-- `master=WORD,CHECK`, `slave=WORDS;CHECKS` and `write=ADDR;WORDS`. Calls take words, so that of addresses, F-codes and port numbers above
+-- 65,535 the largest word is taken: it is out of range as they are
+unfoldable pub lineAs : Key → List ℕ → Line
+lineAs Addr v = numbered (λ (n : ℕ). addr (cut 65535 n)) (numberIn v)
+lineAs Fcode v = numbered (λ (n : ℕ). fcode (cut 65535 n)) (numberIn v)
+lineAs Dir v = dirOf v
+lineAs Index v = numbered (λ (n : ℕ). index (cut 65535 n)) (numberIn v)
+lineAs Master v = frameOf MasterFrame true 44 v
+lineAs Slave v = frameOf SlaveFrame false 59 v
+lineAs Quiet v = numbered quiet (numberIn v)
+lineAs Write v = writeOf v
+lineAs Unknown v = malformed
+
+unfoldable pub lineOf : List ℕ → Line
+lineOf t = lineAs (keyOf (before 61 t)) (after 61 t)

@@ -1,0 +1,70 @@
+/* Listens for the oil temperature: a sink of one word at address 1. Prints that nothing was heard yet, then the value, then that the value
+ * is held because the next reply failed to come. run.sh builds and runs it. */
+#include "tolvendrum.h"
+
+#include <stdio.h>
+#include <stdlib.h>
+
+/* The areas live as long as the program, and begin with all words zero. */
+static uint16_t index_table[TOLVENDRUM_INDEX];
+static uint16_t port_words[TOLVENDRUM_PORTS];
+static uint16_t page0[TOLVENDRUM_PAGE];
+static uint16_t page1[TOLVENDRUM_PAGE];
+
+#define AREAS index_table, TOLVENDRUM_INDEX, port_words, TOLVENDRUM_PORTS, page0, TOLVENDRUM_PAGE, page1, TOLVENDRUM_PAGE
+
+enum { OIL = 1, PORT = 1, ONE_WORD = 0, SINK = 1, NO_INTERRUPT = 0, REPLY_TIME = 64 };
+
+static void must(uint16_t refusal)
+{
+    if (refusal != 0) {
+        printf("refused: %u\n", refusal);
+        exit(1);
+    }
+}
+
+/* A frame of one word and its check byte, without quality marks. */
+static tolvendrum_hearing frame(uint16_t kind, uint16_t word, uint8_t check)
+{
+    tolvendrum_hearing h = {.kind = kind, .words = {word}, .size = 1, .checks = {check}, .ends = 1};
+    return h;
+}
+
+/* Both lines hear the same. */
+static tolvendrum_controller hear(tolvendrum_controller c, tolvendrum_hearing h)
+{
+    tolvendrum_answered r = tolvendrum_hear(AREAS, c, h, h);
+    must(r.refusal);
+    return r.controller;
+}
+
+static void print_oil(void)
+{
+    static const char *const states[] = {"never", "good", "held"};
+    tolvendrum_number state = tolvendrum_ask(AREAS, OIL);
+    must(state.refusal);
+    tolvendrum_fetched f = tolvendrum_fetch(AREAS, OIL);
+    must(f.refusal);
+    printf("oil temperature: %s", states[state.value]);
+    if (f.size == 1)
+        printf(", %u", f.words[0]);
+    printf("\n");
+}
+
+int main(void)
+{
+    tolvendrum_controller c = tolvendrum_reset();
+    must(tolvendrum_open(AREAS, OIL, PORT, ONE_WORD, SINK, NO_INTERRUPT));
+    print_oil();
+
+    tolvendrum_hearing master = frame(TOLVENDRUM_MASTER, OIL, 0x34);
+    c = hear(c, master);
+    c = hear(c, frame(TOLVENDRUM_SLAVE, 2, 0xA1));
+    print_oil();
+
+    c = hear(c, master);
+    tolvendrum_answered late = tolvendrum_quiet(AREAS, c, REPLY_TIME);
+    must(late.refusal);
+    print_oil();
+    return 0;
+}
