@@ -2,6 +2,8 @@
 
 #[path = "../firmware/tolvendrum.rs"]
 mod tolvendrum;
+#[allow(dead_code)]
+mod sides;
 
 use reference as plain;
 use std::hint::black_box;
@@ -44,6 +46,15 @@ fn measure(calls: usize, mut ours: impl FnMut(), mut plain: impl FnMut()) -> (f6
 fn report(name: &str, (ours, plain): (f64, f64), bits: f64) -> f64 {
     println!("{name:<38} {ours:>9.1} {plain:>11.1} {:>7.3} {:>10.0}", ours / plain, bits * BIT / ours);
     ours / plain
+}
+
+/// The reference's quiet time over the same boundary as the library's: the controller goes in by value as numbers, is tested to be one,
+/// and comes back as numbers in an answer.
+#[inline(never)]
+extern "C" fn quiet_across(areas: &mut plain::Areas, numbers: ours::Controller, n: u32) -> ours::Answered {
+    let mut c = sides::controller(&numbers);
+    let refusal = c.as_mut().map_or(2, |c| plain::quiet(c, areas, n));
+    ours::Answered { refusal, controller: c.as_ref().map_or(numbers, sides::flat), reply: ours::Hearing::default() }
 }
 
 fn frame(kind: u16, words: &[u16]) -> (ours::Hearing, plain::Hearing) {
@@ -113,6 +124,13 @@ impl Sides {
         measure(calls, || c = m.quiet(c, black_box(n)).controller, || used(plain::quiet(pc, pm, black_box(n))))
     }
 
+    /// The same with the reference behind the library's boundary.
+    fn quiet_across(&mut self, calls: usize, n: u32) -> (f64, f64) {
+        let (m, pm) = (&mut self.m, &mut self.pm);
+        let (mut c, mut pc) = (self.c, self.c);
+        measure(calls, || c = m.quiet(c, black_box(n)).controller, || pc = quiet_across(pm, pc, black_box(n)).controller)
+    }
+
     /// What a controller's way in, its test and its way out take: clearing EC does nothing else.
     fn crossing(&self, calls: usize) -> f64 {
         let c = self.c;
@@ -147,11 +165,12 @@ fn main() {
         report("master and slave frame, 1 word", s.exchange(20_000, 0, 1, 1), one + one),
         report("master and slave frame, 16 words", s.exchange(10_000, 4, 2, 16), one + sixteen),
         report("master frame and reply, 16 words", s.reply(10_000), one + sixteen),
-        report("quiet, 1 bit time", short, 1.0),
+        report("quiet, 1 bit time, both across", s.quiet_across(100_000, 1), 1.0),
         report("quiet, 65,535 bit times", long, 65_535.0),
         report("ask and fetch, 16 words", s.read(100_000), one + sixteen),
         report("check bytes, 16 words", checks, sixteen),
     ];
+    report("quiet, 1 bit time, reference in place", short, 1.0);
     println!("of each call with a controller, its way in and out takes {:.1} ns (clearing EC)", s.crossing(100_000));
     let worst = ratios.iter().copied().fold(0.0, f64::max);
     println!("worst ratio {worst:.3} (bar {BAR}); quiet of 65,535 takes {:.1} times quiet of 1 (bar {QUIET_BAR})", long.0 / short.0);
