@@ -12,7 +12,7 @@ import sys
 
 HERE = os.path.dirname(os.path.abspath(__file__))
 
-# What the program reads and prints at most.
+# Input of so many bytes or more is not taken, nor output of more.
 LIMIT = 65536
 
 # Slave sizes in words; an F-code that is not here expects no reply.
@@ -194,7 +194,7 @@ def commas(values):
 
 def printed(text):
     """All that is printed of an input."""
-    if len(text) > LIMIT:
+    if len(text) >= LIMIT:
         return "input too long\n"
     program = Program()
     lines = text.split(b"\n")
@@ -386,8 +386,8 @@ def long_runs():
     yield "fills_many", SINK + (master(1) + slave([2]) + master(1) + slave([3])) * 300
     yield "replies_many", SOURCE + "write=2;0,1\n" + master(4098) * 300
     yield "output_exceeded", SOURCES + "write=24;%s\n" % commas([65535] * 16) + master(4 * 4096 + 24) * 600
+    yield "room_left", padded_to(LIMIT - 1)
     yield "room_filled", padded_to(LIMIT)
-    yield "room_exceeded", padded_to(LIMIT + 1)
 
 
 def cases():

@@ -32,7 +32,7 @@ def files():
     for subject in (host, quiet, bus, lines, damage, interrupts):
         subject.run(script)
     made = {name: "".join(line + "\n" for line in getattr(script, name)).encode("ascii") for name in ("stdin", "stdout")}
-    assert len(made["stdin"]) <= LIMIT, "the script has %d bytes" % len(made["stdin"])
+    assert len(made["stdin"]) < LIMIT, "the script has %d bytes" % len(made["stdin"])
     return made
 
 

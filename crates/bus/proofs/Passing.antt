@@ -7,12 +7,11 @@ use Rattle.model.specs.Event.{World, world}
 use Rattle.model.specs.Quiet.{tick, ticks}
 use Rattle.timing.specs.declared.Passed.{Passed}
 use Rattle.timing.specs.Jump.{jumped}
-use Rattle.timing.proofs.Jump.{jump-on}
+use Rattle.timing.proofs.Jump.{left-at-most, jump-on}
 
 -- a jump leaves no more than there was
 pub left-less : (n : ℕ) (c : Controller) (j : Passed) → j ≡ jumped n c → j .left ≤ n
-unfolding jumped
-left-less n c j e = rw e (omega arith)
+left-less n c j e = rw e (left-at-most n c)
 
 -- after a jump, what is left of the bit times gives what all would have given
 pub jump-left : (n : ℕ) (s : World) (j : Passed) → j ≡ jumped n (s .controller)

@@ -152,7 +152,9 @@ fn tick(index: &[u16], ports: &mut [u16], page0: &[u16], page1: &[u16], c: Contr
     quiet::tick_controller(c)
 }
 
-// n quiet bit times, from deadline to deadline.
+// n quiet bit times, from deadline to deadline, and to the end at once when nothing but line timeouts is to come. Before that come the
+// reply time, the bus timeout, the bit time in which a filed LS acts, and a line timeout, each at most once (the bus timeout is past and
+// RLD or SLM is set when a second line timeout comes): the loop turns at most five times, whatever n is.
 fn pass(
     index: &[u16],
     ports: &mut [u16],

@@ -1,11 +1,11 @@
 -- Texts cut at the first byte b, in the terms of the code: by how many bytes stand before it. Assumes nothing.
 use Prim.Native.Nat.{ℕ, zero, suc, _+_, _<_, _≤_}
-use mathlib.Core.Path.{_≡_, refl, _∙_, ap}
-use mathlib.Core.Bool.{Bool, true, false, cond, _&&_}
-use mathlib.Core.List.{List, [], _∷_}
+use mathlib.Core.Path.{_≡_, refl, sym, _∙_, ap}
+use mathlib.Core.Bool.{Bool, true, false, cond, _&&_, false≢true}
+use mathlib.Core.List.{List, [], _∷_, _++_}
 use native.Mathlib.Numerals.{add-one}
 use native.Mathlib.Omega.{arith}
-use borrow.Author.Tests.{lt-ltb, le-ltb}
+use borrow.Author.Tests.{lt-ltb, le-ltb, eq-eqb}
 use lib.Dec.{eqb, ltb, leb·suc-suc}
 use lib.ListN.{length, getD, take, drop, drop-of-length-le}
 use lib.Seq.{drop-cons}
@@ -65,6 +65,33 @@ has-until b (c ∷ cs) = go (eqb c b) (has-until b cs)
     go true h = lt-ltb 0 (suc (length cs)) (omega arith)
     go false h = leb·suc-suc (suc (until b cs)) (length cs) ∙ h
 
+-- ---- texts without b, joined
+
+-- a text without b does not begin with one, and has none after its first byte
+lacks : (b c : ℕ) (cs : List ℕ) → has b (c ∷ cs) ≡ false → (eqb c b ≡ false) × (has b cs ≡ false)
+unfolding has
+lacks b c cs h = go (eqb c b) h
+  where
+    go : (e : Bool) → cond e true (has b cs) ≡ false → (e ≡ false) × (has b cs ≡ false)
+    go true k = absurd (false≢true (sym k))
+    go false k = (refl, k)
+
+pub lacks-joined : (b : ℕ) (t u : List ℕ) → has b t ≡ false → has b u ≡ false → has b (t ++ u) ≡ false
+unfolding has
+lacks-joined b [] u h k = k
+lacks-joined b (c ∷ cs) u h k = rw (lacks b c cs h .0, lacks-joined b cs u (lacks b c cs h .1) k)
+
+-- the first b is the one between
+pub before-joined : (b : ℕ) (t u : List ℕ) → has b t ≡ false → before b (t ++ b ∷ u) ≡ t
+unfolding before
+before-joined b [] u h = rw (eq-eqb b b refl)
+before-joined b (c ∷ cs) u h = rw (lacks b c cs h .0, before-joined b cs u (lacks b c cs h .1))
+
+pub after-joined : (b : ℕ) (t u : List ℕ) → has b t ≡ false → after b (t ++ b ∷ u) ≡ u
+unfolding after
+after-joined b [] u h = rw (eq-eqb b b refl)
+after-joined b (c ∷ cs) u h = rw (lacks b c cs h .0, after-joined b cs u (lacks b c cs h .1))
+
 -- ---- two texts, byte by byte
 
 pub same-longer : (t s : List ℕ) → (length t ≡ length s → ⊥) → same t s ≡ false
@@ -78,10 +105,11 @@ same-longer (c ∷ cs) (d ∷ ds) h = go (eqb c d) (same-longer cs ds (λ e. h (
     go true r = r
     go false r = refl
 
-pub same-on : (t s : List ℕ) (i : ℕ) → i < length t → i < length s
-    → same (drop i t) (drop i s) ≡ (eqb (getD t i 0) (getD s i 0) && same (drop (i + 1) t) (drop (i + 1) s))
+-- what is left is the same exactly if the next bytes are and the rest is
+pub same-on : (t s : List ℕ) (i : ℕ) (alike : Bool) → i < length t → length t ≡ length s → eqb (getD t i 0) (getD s i 0) ≡ alike
+    → (alike && same (drop (i + 1) t) (drop (i + 1) s)) ≡ same (drop i t) (drop i s)
 unfolding same
-same-on t s i h k = rw (drop-cons t i 0 h, drop-cons s i 0 k, add-one i)
+same-on t s i alike h k e = rw (drop-cons t i 0 h, drop-cons s i 0 (omega arith), e, add-one i)
 
 pub same-end : (t s : List ℕ) (i : ℕ) → length t ≤ i → length s ≤ i → same (drop i t) (drop i s) ≡ true
 unfolding same

@@ -69,7 +69,7 @@ largest-alone (v ∷ w ∷ vs) e = absurd (suc-ne-zero (length vs) (suc-inj e))
 
 -- what is told of a list says whether it is one number, and which
 module _ (into store : List ℕ) (l : Listed) (n : Numbers) (e : reading store l ≡ readingOf into n) where
-  told : l ≡ listed n
+  pub told : l ≡ listed n
   told = ap (λ (r : Reading). r .told) e
 
   pub alone : (l .good && eqb (l .count) 1) ≡ true → Value (l .largest) ≡ numberOf n

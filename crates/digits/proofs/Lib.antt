@@ -2,3 +2,4 @@ pub mod Cutting
 pub mod Items
 pub mod Pasting
 pub mod Limits
+pub mod Back

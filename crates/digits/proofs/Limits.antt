@@ -30,12 +30,16 @@ unfolding largest
 largest-above m [] = omega arith
 largest-above m (v ∷ vs) = omega (arith, larger-left m v, largest-above (cond (ltb m v) v m) vs)
 
+-- the first of some numbers is at most the largest of them
+pub first-within : (limit m v : ℕ) (vs : List ℕ) → largest m (v ∷ vs) ≤ limit → v ≤ limit
+unfolding largest
+first-within limit m v vs h = omega (arith, larger-right m v, largest-above (cond (ltb m v) v m) vs)
+
 pub cut-same : (limit m : ℕ) (vs : List ℕ) → largest m vs ≤ limit → map (cut limit) vs ≡ vs
 unfolding largest
 cut-same limit m [] h = refl
 cut-same limit m (v ∷ vs) h =
-    let k : v ≤ limit = omega (arith, larger-right m v, largest-above (cond (ltb m v) v m) vs) in
-    rw (le-ltb limit v k, cut-same limit (cond (ltb m v) v m) vs h)
+    rw (le-ltb limit v (first-within limit m v vs h), cut-same limit (cond (ltb m v) v m) vs h)
 
 map-set : (f : ℕ → ℕ) (l : List ℕ) (i a : ℕ) → map f (set l i a) ≡ set (map f l) i (f a)
 map-set f [] i a = refl

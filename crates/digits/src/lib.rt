@@ -5,6 +5,8 @@
 // afterwards is specs/Write.antt's `onto`. Nothing is asked of the caller. What has no room in a buffer is counted and not stored, so a
 // caller sees by the place that comes back whether all of it went in.
 //
+// What is written reads back: numbers of at most 65,535, alone or in a list, are read from their text as themselves (proofs/Back.antt).
+//
 // `cut` has the texts, `read` the numbers, `write` the buffer.
 pub mod cut;
 pub mod read;

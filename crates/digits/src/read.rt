@@ -1,12 +1,13 @@
 // Decimal numbers, and lists of them with commas between.
 ghost use mathlib.Core.Path.{_≡_};
-ghost use mathlib.Core.Bool.{false, cond, _&&_};
+ghost use mathlib.Core.Bool.{false, cond};
 ghost use Prim.Native.Nat.{_-_, _+_};
 ghost use lib.Dec.{ltb};
 ghost use lib.ListN.{set};
 ghost use Rattle.digits.specs.Read.{isDigit, cut, longer, itemsFrom, numbersIn, reading, readingOf, numberIn};
 use crate::Listed;
 use crate::Number;
+use choice::both;
 
 const LAST_WORD: u32 = 65535;
 
@@ -14,12 +15,6 @@ const LAST_BYTE: u16 = 255;
 
 // What stands for every number above the last word.
 const LARGE: u64 = 65536;
-
-fn both(a: bool, b: bool) -> bool
-    ensures { λ r. ⌜ r ≡ (a && b) ⌝ }
-{
-    if a { b } else { false }
-}
 
 // A number as a word, at most 65,535.
 pub fn word(v: u32) -> u16

@@ -13,15 +13,15 @@ use Rattle.model.specs.Calls.{Call, outcome}
 use Rattle.controller.specs.declared.GroupCall.{GroupCall}
 use Rattle.controller.specs.Settings.{told, answer as answered}
 use Rattle.controller.specs.Groups.{callOf, reading0, reading1}
-use Rattle.firmware.specs.declared.FlatController.{FlatController}
-use Rattle.firmware.specs.Flags.{isBit, isSet}
-use Rattle.firmware.specs.Controller.{flat, controllerOf, ours}
-use Rattle.firmware.specs.Hearing.{flatHearing}
+use Rattle.flat.specs.declared.FlatController.{FlatController}
+use Rattle.flat.specs.Flags.{isBit, isSet}
+use Rattle.flat.specs.Controller.{flat, controllerOf, ours}
+use Rattle.flat.specs.Hearing.{flatHearing}
 use Rattle.firmware.specs.Promise.{answers, leaves, flatOutcome, away, through, flatTold, awayTold, setThrough, reading, flatReading}
 use Rattle.firmware.specs.Promise.{awayReading, readThrough}
-use Rattle.firmware.specs.Kept.{Ours}
-use Rattle.firmware.proofs.Inverse.{same-numbers}
-use Rattle.firmware.proofs.Kept.{ours-taken, ours-kept, ours-fresh, ours-told}
+use Rattle.flat.specs.Kept.{Ours}
+use Rattle.flat.proofs.Inverse.{same-numbers}
+use Rattle.flat.proofs.Kept.{ours-taken, ours-kept, ours-fresh, ours-told}
 
 -- ---- what is handed out is taken back
 

@@ -7,8 +7,8 @@ use Rattle.model.specs.Layout.{Areas}
 use Rattle.model.specs.Event.{world}
 use Rattle.model.specs.Calls.{Call, Outcome, outcome}
 use Rattle.ports.specs.Host.{out, hostCall}
-use Rattle.firmware.specs.declared.FlatController.{FlatController}
-use Rattle.firmware.specs.Controller.{controllerOf}
+use Rattle.flat.specs.declared.FlatController.{FlatController}
+use Rattle.flat.specs.Controller.{controllerOf}
 use Rattle.firmware.specs.Promise.{awayNumber, flatOutcome, away, through, openThrough}
 
 pub taken : (b : Bool) (c : Call) (x : Controller) (f : FlatController) (m : Areas) (o : Outcome) → b ≡ true → x ≡ controllerOf f

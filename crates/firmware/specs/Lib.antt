@@ -1,5 +1,1 @@
-pub mod Flags
-pub mod Controller
-pub mod Hearing
 pub mod Promise
-pub mod Kept

@@ -19,17 +19,17 @@ use Rattle.controller.specs.declared.Told.{Told}
 use Rattle.controller.specs.Settings.{told}
 use Rattle.controller.specs.Groups.{reading0, reading1}
 use Rattle.ports.specs.Host.{Out, out, hostCall}
-use Rattle.firmware.specs.declared.FlatController.{FlatController}
-use Rattle.firmware.specs.declared.FlatHearing.{FlatHearing}
+use Rattle.flat.specs.declared.FlatController.{FlatController}
+use Rattle.flat.specs.declared.FlatHearing.{FlatHearing}
 use Rattle.firmware.specs.declared.FlatAnswered.{FlatAnswered}
 use Rattle.firmware.specs.declared.FlatTold.{FlatTold}
 use Rattle.firmware.specs.declared.FlatReading.{FlatReading}
 use Rattle.firmware.specs.declared.Number.{Number}
 use Rattle.firmware.specs.declared.Fetched.{Fetched}
 use Rattle.firmware.specs.declared.FlatChecks.{FlatChecks}
-use Rattle.firmware.specs.Flags.{isBit, isSet}
-use Rattle.firmware.specs.Controller.{flat, controllerOf, ours}
-use Rattle.firmware.specs.Hearing.{flatHearing}
+use Rattle.flat.specs.Flags.{isBit, isSet}
+use Rattle.flat.specs.Controller.{flat, controllerOf, ours}
+use Rattle.flat.specs.Hearing.{flatHearing}
 
 -- ---- calls that are lent the areas: an argument out of range is 2, after 1 where an area has another length
 

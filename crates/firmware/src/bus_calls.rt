@@ -5,20 +5,21 @@ ghost use Prim.Native.Nat.{_≤_};
 ghost use Rattle.model.specs.Event.{silent};
 ghost use Rattle.model.specs.Calls.{hear, quiet};
 ghost use Rattle.areas.specs.Lent.{lent};
-ghost use Rattle.firmware.specs.Controller.{flat, ours};
-ghost use Rattle.firmware.specs.Hearing.{flatHearing, hearingOf, formed};
+ghost use Rattle.flat.specs.Controller.{flat, ours};
+ghost use Rattle.flat.specs.Hearing.{flatHearing, hearingOf, formed};
 ghost use Rattle.firmware.specs.Promise.{answers, leaves, through, flatChecks};
 use crate::FlatAnswered;
 use crate::FlatChecks;
-use crate::FlatController;
-use crate::FlatHearing;
 use crate::away::away_number;
-use crate::hearing;
-use crate::state;
+use crate::given;
+use crate::reply;
 use answering::frame;
 use bus::Answered;
 use bus::calls;
-use choice::both;
+use flat::FlatController;
+use flat::FlatHearing;
+use flat::hearing;
+use flat::state;
 
 fn flat_answered(r: Answered) -> FlatAnswered
     requires { ⌜ (r .reply .size ≤ 16) × (r .reply .ends ≤ 4) ⌝ }
@@ -29,7 +30,7 @@ fn flat_answered(r: Answered) -> FlatAnswered
     FlatAnswered {
         refusal: r.refusal,
         controller: state::flat(c),
-        reply: hearing::flat_hearing(h),
+        reply: reply::flat_hearing(h),
     }
 }
 
@@ -40,7 +41,7 @@ fn turn_away(number: u16, c: FlatController) -> FlatAnswered
     FlatAnswered {
         refusal: number,
         controller: c,
-        reply: hearing::flat_hearing(frame::silent()),
+        reply: reply::flat_hearing(frame::silent()),
     }
 }
 
@@ -61,10 +62,7 @@ pub extern "C" fn tolvendrum_hear(
         (lent (index .entry) (ports .entry) (page0 .entry) (page1 .entry))
         ⌝ }
 {
-    let given = both(
-        both(state::is_ours(c), hearing::is_formed(a)),
-        hearing::is_formed(b),
-    );
+    let given = given::with_hearings(c, a, b);
     if given {
         let x = state::controller_of(c);
         let on_a = hearing::hearing_of(a);

@@ -2,21 +2,20 @@
 ghost use mathlib.Core.Path.{_≡_};
 ghost use mathlib.Core.Bool.{cond, _&&_};
 ghost use Rattle.interrupts.specs.Group.{active};
-ghost use Rattle.firmware.specs.Flags.{bitOf, isBit};
-ghost use Rattle.firmware.specs.Controller.{controllerOf, ours};
+ghost use Rattle.flat.specs.Flags.{bitOf, isBit};
+ghost use Rattle.flat.specs.Controller.{controllerOf, ours};
 ghost use Rattle.firmware.specs.Promise.{groupAt, reading, flatReading, awayReading, readThrough, asks};
-use crate::FlatController;
 use crate::FlatReading;
 use crate::Number;
-use crate::flags::bit_of;
-use crate::flags::is_bit;
-use crate::flags::is_set;
-use crate::state;
-use choice::both;
+use crate::given;
 use constants::RANGE;
 use controller::GroupCall;
 use controller::Reading;
 use controller::groups;
+use flat::FlatController;
+use flat::flags::bit_of;
+use flat::flags::is_set;
+use flat::state;
 use interrupts::Group;
 use model::Controller;
 
@@ -55,7 +54,7 @@ fn on_group(c: FlatController, n: u16, k: GroupCall) -> FlatReading
     ensures { λ r. ⌜ r ≡ readThrough n k c ⌝ }
 {
     let r = read_group(state::controller_of(c), n, k);
-    flat_reading(both(state::is_ours(c), is_bit(n)), r, c)
+    flat_reading(given::with_flag(c, n), r, c)
 }
 
 // Reading status freezes.
@@ -134,8 +133,7 @@ pub extern "C" fn tolvendrum_line(c: FlatController, group: u16) -> Number
     ensures { λ r. ⌜ r ≡ asks (ours c && isBit group) (bitOf (active (groupAt group (controllerOf c)))) ⌝ }
 {
     let g = group_at(group, state::controller_of(c));
-    let given = both(state::is_ours(c), is_bit(group));
-    answer(given, bit_of(g.line()))
+    answer(given::with_flag(c, group), bit_of(g.line()))
 }
 
 // FC, which counts judged frames.

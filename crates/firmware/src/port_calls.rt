@@ -3,14 +3,14 @@ ghost use mathlib.Core.Path.{_≡_};
 ghost use Rattle.model.specs.Calls.{openPort, closePort, writePort, asked, refusalOf};
 ghost use Rattle.areas.specs.Lent.{lent};
 ghost use Rattle.ports.specs.Host.{out, hostCall};
-ghost use Rattle.firmware.specs.Flags.{isBit, isSet};
+ghost use Rattle.flat.specs.Flags.{isBit, isSet};
 ghost use Rattle.firmware.specs.Promise.{openThrough, answerNumber, fetching};
 use crate::Fetched;
 use crate::Number;
 use crate::away::away_number;
-use crate::flags::is_bit;
-use crate::flags::is_set;
 use areas::store;
+use flat::flags::is_bit;
+use flat::flags::is_set;
 use model::Answer;
 use ports::calls;
 

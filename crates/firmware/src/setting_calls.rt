@@ -3,18 +3,17 @@ ghost use mathlib.Core.Path.{_≡_};
 ghost use mathlib.Core.Bool.{cond, _&&_};
 ghost use Rattle.model.specs.Host.{freshController, address, status, replyTime, slm, ls, clearEC};
 ghost use Rattle.controller.specs.Settings.{answer};
-ghost use Rattle.firmware.specs.Flags.{isBit, isSet};
-ghost use Rattle.firmware.specs.Controller.{flat, ours};
+ghost use Rattle.flat.specs.Flags.{isBit, isSet};
+ghost use Rattle.flat.specs.Controller.{flat, ours};
 ghost use Rattle.firmware.specs.Promise.{flatTold, awayTold, setThrough};
-use crate::FlatController;
 use crate::FlatTold;
-use crate::flags::is_bit;
-use crate::flags::is_set;
-use crate::state;
-use choice::both;
+use crate::given;
 use constants::RANGE;
 use controller::Told;
 use controller::settings;
+use flat::FlatController;
+use flat::flags::is_set;
+use flat::state;
 use model::Controller;
 
 // A fresh controller.
@@ -86,7 +85,7 @@ pub extern "C" fn tolvendrum_set_slm(c: FlatController, on: u16) -> FlatTold
     ensures { λ r. ⌜ r ≡ setThrough (ours c && isBit on) (slm (isSet on)) c ⌝ }
 {
     let t = made(settings::set_slm(state::controller_of(c), is_set(on)));
-    flat_told(both(state::is_ours(c), is_bit(on)), t, c)
+    flat_told(given::with_flag(c, on), t, c)
 }
 
 // A line switch filed (1), or withdrawn (0).
@@ -95,7 +94,7 @@ pub extern "C" fn tolvendrum_set_ls(c: FlatController, on: u16) -> FlatTold
     ensures { λ r. ⌜ r ≡ setThrough (ours c && isBit on) (ls (isSet on)) c ⌝ }
 {
     let t = made(settings::set_ls(state::controller_of(c), is_set(on)));
-    flat_told(both(state::is_ours(c), is_bit(on)), t, c)
+    flat_told(given::with_flag(c, on), t, c)
 }
 
 // EC is cleared.

@@ -4,20 +4,13 @@
 // No function here promises anything of its result; all are proved to be safe and to end.
 use libc::STDOUT_FILENO;
 
+// The length of the buffers. Where a file fills one, more of it may follow: a file of 65,536 bytes or more is not taken.
 const ROOM: usize = 65536;
 
-// Whether the file goes on after a full buffer.
-fn goes_on(fd: i32) -> bool {
-    let mut one = [0u8; 1];
-    let n = io::read_full(fd, &mut one);
-    0 < n
-}
-
-fn answer(input: &[u8]) {
-    let mut out = io::large_buffer();
-    let n = session::run::run(input, &mut out);
-    if n <= ROOM {
-        io::write_all(STDOUT_FILENO, &out[..n]);
+// The first n bytes, if there are so many.
+fn print_first(text: &[u8], n: usize) {
+    if n <= text.len() {
+        io::write_all(STDOUT_FILENO, &text[0..n]);
         return;
     }
     io::write_all(STDOUT_FILENO, b"output too long\n");
@@ -26,11 +19,13 @@ fn answer(input: &[u8]) {
 fn run_file(fd: i32) {
     let mut input = io::large_buffer();
     let n = io::read_full(fd, &mut input);
-    if goes_on(fd) {
+    if n == ROOM {
         io::write_all(STDOUT_FILENO, b"input too long\n");
         return;
     }
-    answer(&input[..n]);
+    let mut out = io::large_buffer();
+    let length = session::run::run(&input[..n], &mut out);
+    print_first(&out, length);
 }
 
 fn run_argument(i: usize) {

@@ -19,3 +19,8 @@ pub(crate) fn low8(n: u32) -> u8 {
 pub(crate) fn bit(b: bool) -> u16 {
     if b { 1 } else { 0 }
 }
+
+// One more, up to a number that nothing of a script reaches.
+pub(crate) fn more(n: usize) -> usize {
+    if n < 1000 { n + 1 } else { n }
+}

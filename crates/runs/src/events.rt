@@ -1,7 +1,10 @@
 // Bus events and quiet time: command k with the number n.
 use crate::bits::least;
-use crate::line::is;
+use crate::desk::Desk;
+use crate::names::HEAR;
+use crate::names::QUIET;
 use crate::say;
+use bus::Answered;
 use frames::Hearing;
 use frames::Kind;
 use model::Controller;
@@ -52,46 +55,34 @@ fn answered(no: u16, reply: Hearing) {
     say::end();
 }
 
-// The event, n times, unprinted.
+// The last answer of the event, n times.
 fn repeated(
     index: &[u16],
     ports: &mut [u16],
     page0: &mut [u16],
     page1: &mut [u16],
-    c: Controller,
-    a: Hearing,
-    b: Hearing,
+    d: Desk,
     n: u32,
-) -> Controller {
-    let mut d = c;
+) -> Answered {
+    let a = d.a;
+    let b = d.b;
+    let c = d.controller;
+    let mut r = Answered {
+        refusal: 0,
+        controller: c,
+        reply: a,
+    };
     let mut i: u32 = 0;
     while i < n {
-        let r = bus::calls::hear(index, ports, page0, page1, d, a, b);
-        d = r.controller;
+        r = bus::calls::hear(index, ports, page0, page1, r.controller, a, b);
         i += 1;
     }
-    d
+    r
 }
 
-// How often the line wants the event before the one that is printed.
-fn before(n: u32) -> u32 {
-    if n == 0 { 0 } else { n - 1 }
-}
-
-fn hear(
-    index: &[u16],
-    ports: &mut [u16],
-    page0: &mut [u16],
-    page1: &mut [u16],
-    c: Controller,
-    a: Hearing,
-    b: Hearing,
-    n: u32,
-) -> Controller {
-    let d = repeated(index, ports, page0, page1, c, a, b, before(n));
-    let r = bus::calls::hear(index, ports, page0, page1, d, a, b);
-    answered(r.refusal, r.reply);
-    r.controller
+// How often the line wants the event: once without a number.
+fn often(n: u32) -> u32 {
+    if n == 0 { 1 } else { n }
 }
 
 fn quiet(
@@ -112,17 +103,17 @@ pub(crate) fn run(
     ports: &mut [u16],
     page0: &mut [u16],
     page1: &mut [u16],
-    c: Controller,
-    a: Hearing,
-    b: Hearing,
-    k: u64,
+    d: Desk,
+    k: usize,
     n: u32,
 ) -> Controller {
-    if is(k, b"hear") {
-        return hear(index, ports, page0, page1, c, a, b, n);
+    if k == HEAR {
+        let r = repeated(index, ports, page0, page1, d, often(n));
+        answered(r.refusal, r.reply);
+        return r.controller;
     }
-    if is(k, b"quiet") {
-        return quiet(index, ports, page0, page1, c, n);
+    if k == QUIET {
+        return quiet(index, ports, page0, page1, d.controller, n);
     }
-    c
+    d.controller
 }

@@ -1,4 +1,5 @@
 // What a line of the script says that is heard.
+use crate::line::KEPT;
 use crate::line::Line;
 use frames::Hearing;
 use frames::Kind;
@@ -13,27 +14,21 @@ fn kind_of(n: u16) -> Kind {
     }
 }
 
+// The first sixteen of a line's numbers: a hearing has room for no more.
+fn heard_words(w: [u16; KEPT]) -> [u16; 16] {
+    let mut words = [0u16; 16];
+    let mut i: usize = 0;
+    while i < 16 {
+        words[i] = w[i];
+        i += 1;
+    }
+    words
+}
+
 pub(crate) fn hearing_of(l: Line) -> Hearing {
     let w = l.words;
     let checks = l.checks;
-    let words = [
-        w[0],
-        w[1],
-        w[2],
-        w[3],
-        w[4],
-        w[5],
-        w[6],
-        w[7],
-        w[8],
-        w[9],
-        w[10],
-        w[11],
-        w[12],
-        w[13],
-        w[14],
-        w[15],
-    ];
+    let words = heard_words(w);
     let kind = kind_of(l.kind);
     Hearing {
         kind,

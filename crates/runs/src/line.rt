@@ -1,16 +1,25 @@
 // A line of the script, read byte by byte. Whatever the bytes are, a line comes of them.
 use crate::bits::low8;
 use crate::bits::low16;
+use crate::bits::more;
+use crate::names::ALO;
+use crate::names::MASTER;
+use crate::names::NOISE;
+use crate::names::SLAVE;
+use crate::names::SQE;
+use crate::names::VIOLATION;
+use crate::names::number_of;
+use crate::names::with_letter;
 use choice::either;
 use choice::pick;
 
 // How many of a line's numbers before the slash are kept, the first ones: an address and more words than any port has.
 pub(crate) const KEPT: usize = 20;
 
-// A name is its letters, five bits for each. `size` and `ends` count all numbers before and after the slash, also those not kept.
+// The command is its number, 0 where there is none. `size` and `ends` count all numbers before and after the slash, also those not kept.
 // `name`, `number` and `digits` are of what is being read: a name, or a number where there was a digit.
 pub(crate) struct Line {
-    pub(crate) command: u64,
+    pub(crate) command: usize,
     pub(crate) kind: u16,
     pub(crate) sqe: bool,
     pub(crate) violation: bool,
@@ -45,35 +54,6 @@ fn empty() -> Line {
     }
 }
 
-fn wide(b: u8) -> u64 {
-    b as u64
-}
-
-fn with_letter(name: u64, b: u8) -> u64 {
-    (name << 5) | wide(b % 32)
-}
-
-// The name with these letters, of which the last twelve count.
-pub(crate) fn packed(letters: &[u8]) -> u64 {
-    let mut name: u64 = 0;
-    let mut i: usize = 0;
-    while i < letters.len() {
-        name = with_letter(name, letters[i]);
-        i += 1;
-    }
-    name
-}
-
-// Whether a name has these letters.
-pub(crate) fn is(name: u64, letters: &[u8]) -> bool {
-    name == packed(letters)
-}
-
-// One more, up to a number that no line of the script reaches.
-fn more(n: usize) -> usize {
-    if n < 1000 { n + 1 } else { n }
-}
-
 fn add_letter(l: Line, b: u8) -> Line {
     let mut next = l;
     next.name = with_letter(l.name, b);
@@ -91,13 +71,13 @@ fn add_digit(l: Line, b: u8) -> Line {
 // A name behind the command: a kind or a quality mark.
 fn qualify(l: Line) -> Line {
     let mut next = l;
-    let x = l.name;
-    next.kind = pick(is(x, b"noise"), 1, l.kind);
-    next.kind = pick(is(x, b"master"), 2, next.kind);
-    next.kind = pick(is(x, b"slave"), 3, next.kind);
-    next.sqe = either(l.sqe, is(x, b"sqe"));
-    next.violation = either(l.violation, is(x, b"violation"));
-    next.alo = either(l.alo, is(x, b"alo"));
+    let x = number_of(l.name);
+    next.kind = pick(x == NOISE, 1, l.kind);
+    next.kind = pick(x == MASTER, 2, next.kind);
+    next.kind = pick(x == SLAVE, 3, next.kind);
+    next.sqe = either(l.sqe, x == SQE);
+    next.violation = either(l.violation, x == VIOLATION);
+    next.alo = either(l.alo, x == ALO);
     next.name = 0;
     next
 }
@@ -110,7 +90,7 @@ fn end_name(l: Line) -> Line {
         return qualify(l);
     }
     let mut next = l;
-    next.command = l.name;
+    next.command = number_of(l.name);
     next.name = 0;
     next
 }

@@ -1,7 +1,8 @@
 // Document 01's numbers, run: a script of calls is read from standard input, each call is made, and a line is printed for each answer.
 //
 // A line of the script is a command and decimal numbers, with a space between two; a number above 65,535 counts modulo 65,536, but for
-// `quiet` and `hear`. A line that begins with # is printed as it stands, and any other line does nothing. At most 65,536 bytes are read.
+// `quiet` and `hear`. A line that begins with # is printed as it stands, and any other line does nothing. Input of 65,536 bytes or more
+// is `input too long`.
 //
 //   begin                       cleared areas, a fresh controller, silence on both lines
 //   lengths I P Q R             how many words of the index table, the port words, page 0 and page 1 are lent from here on
@@ -19,11 +20,13 @@
 // stdout from a controller of its own, written from document 01. No function here promises anything of its result; all are proved to
 // be safe and to end.
 mod bits;
+mod desk;
 mod events;
 mod groups;
 mod hearing;
 mod lent;
 mod line;
+mod names;
 mod numbers;
 mod port_calls;
 mod say;
@@ -34,17 +37,13 @@ mod step;
 
 use libc::STDIN_FILENO;
 
-// Whether the input goes on after what was read.
-fn goes_on() -> bool {
-    let mut one = [0u8; 1];
-    let n = io::read_full(STDIN_FILENO, &mut one);
-    0 < n
-}
+// The length of the buffer. Where the input fills it, more of it may follow.
+const ROOM: usize = 65536;
 
 fn main() {
     let mut buffer = io::large_buffer();
     let n = io::read_full(STDIN_FILENO, &mut buffer);
-    if goes_on() {
+    if n == ROOM {
         say::text(b"input too long\n");
         return;
     }

@@ -1,40 +1,46 @@
-// The host's calls on ports: command k with the line's numbers w, of which there are `size`.
+// The host's calls on ports, with the numbers of the script's line.
 use crate::bits::least;
 use crate::line::KEPT;
-use crate::line::is;
+use crate::line::Line;
+use crate::names::ASK;
+use crate::names::CLOSE;
+use crate::names::FETCH;
+use crate::names::OPEN;
+use crate::names::WRITE;
 use crate::say;
+use choice::either;
 
-fn open(
+fn open_or_close(
     index: &mut [u16],
     ports: &mut [u16],
     page0: &[u16],
     page1: &[u16],
-    k: u64,
+    k: usize,
     w: [u16; KEPT],
-) {
-    if !is(k, b"open") {
-        return;
+) -> u16 {
+    if k == OPEN {
+        return ports::calls::open(
+            index,
+            ports,
+            page0,
+            page1,
+            w[0],
+            w[1],
+            w[2],
+            w[3] == 1,
+            w[4],
+        );
     }
-    let no = ports::calls::open(
-        index,
-        ports,
-        page0,
-        page1,
-        w[0],
-        w[1],
-        w[2],
-        w[3] == 1,
-        w[4],
-    );
-    say::told(b"open ", no);
+    ports::calls::close(index, ports, page0, page1, w[0])
 }
 
-fn close(index: &mut [u16], ports: &mut [u16], page0: &[u16], page1: &[u16], k: u64, a: u16) {
-    if !is(k, b"close") {
-        return;
+// What opening or closing answered.
+fn told(k: usize, no: u16) {
+    if k == OPEN {
+        say::told(b"open ", no);
+    } else {
+        say::told(b"close ", no);
     }
-    let no = ports::calls::close(index, ports, page0, page1, a);
-    say::told(b"close ", no);
 }
 
 // The words are the line's numbers but the first.
@@ -43,14 +49,10 @@ fn write(
     ports: &mut [u16],
     page0: &mut [u16],
     page1: &mut [u16],
-    k: u64,
     w: [u16; KEPT],
     size: usize,
 ) {
     let n = least(size, KEPT);
-    if !is(k, b"write") {
-        return;
-    }
     if n == 0 {
         return;
     }
@@ -58,11 +60,11 @@ fn write(
     say::told(b"write ", no);
 }
 
-fn read<'a>(index: &[u16], ports: &[u16], page0: &'a [u16], page1: &'a [u16], k: u64, a: u16) {
-    if is(k, b"ask") {
+fn read<'a>(index: &[u16], ports: &[u16], page0: &'a [u16], page1: &'a [u16], k: usize, a: u16) {
+    if k == ASK {
         say::answer(ports::calls::ask(index, ports, page0, page1, a));
     }
-    if is(k, b"fetch") {
+    if k == FETCH {
         say::words(b"fetch", ports::calls::fetch(index, ports, page0, page1, a));
     }
 }
@@ -72,12 +74,17 @@ pub(crate) fn run(
     ports: &mut [u16],
     page0: &mut [u16],
     page1: &mut [u16],
-    k: u64,
-    w: [u16; KEPT],
-    size: usize,
+    l: Line,
 ) {
-    open(index, ports, page0, page1, k, w);
-    close(index, ports, page0, page1, k, w[0]);
-    write(index, ports, page0, page1, k, w, size);
+    let k = l.command;
+    let w = l.words;
+    if k == WRITE {
+        write(index, ports, page0, page1, w, l.size);
+        return;
+    }
+    if either(k == OPEN, k == CLOSE) {
+        told(k, open_or_close(index, ports, page0, page1, k, w));
+        return;
+    }
     read(index, ports, page0, page1, k, w[0]);
 }

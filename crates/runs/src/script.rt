@@ -1,11 +1,12 @@
 // The script, line by line, over four areas that begin cleared.
+use crate::desk::fresh;
 use crate::line::Line;
 use crate::line::line_of;
+use crate::names::BEGIN;
 use crate::say;
 use crate::step::INDEX;
 use crate::step::PAGE;
 use crate::step::PORTS;
-use crate::step::fresh;
 use crate::step::step;
 ghost use Prim.Native.Nat.{_≤_};
 ghost use lib.ListN.{length};
@@ -57,14 +58,15 @@ pub(crate) fn run(text: &[u8]) {
         let end = at + line_length(&text[at..]);
         let s = &text[at..end];
         comment(s);
-        d = step(
-            &mut index,
-            &mut ports,
-            &mut page0,
-            &mut page1,
-            d,
-            command(s),
-        );
+        let l = command(s);
+        if l.command == BEGIN {
+            index = [0; INDEX];
+            ports = [0; PORTS];
+            page0 = [0; PAGE];
+            page1 = [0; PAGE];
+            d = fresh();
+        }
+        d = step(&mut index, &mut ports, &mut page0, &mut page1, d, l);
         at = end + 1;
     }
 }

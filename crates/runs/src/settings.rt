@@ -1,5 +1,11 @@
 // The host's settings: command k with the number n.
-use crate::line::is;
+use crate::names::ADDRESS;
+use crate::names::CLEAR;
+use crate::names::REPLY;
+use crate::names::RESET;
+use crate::names::SINGLE;
+use crate::names::STATUS;
+use crate::names::SWITCH;
 use crate::say;
 use controller::Told;
 use model::Controller;
@@ -9,39 +15,39 @@ fn told(what: &[u8], t: Told) -> Controller {
     t.controller
 }
 
-fn with_range(c: Controller, k: u64, n: u16) -> Controller {
-    if is(k, b"address") {
+fn with_range(c: Controller, k: usize, n: u16) -> Controller {
+    if k == ADDRESS {
         return told(b"address ", controller::settings::set_address(c, n));
     }
-    if is(k, b"reply") {
+    if k == REPLY {
         return told(b"reply ", controller::settings::set_reply_time(c, n));
     }
     c
 }
 
-fn of_lines(c: Controller, k: u64, on: bool) -> Controller {
-    if is(k, b"single") {
+fn of_lines(c: Controller, k: usize, on: bool) -> Controller {
+    if k == SINGLE {
         return controller::settings::set_slm(c, on);
     }
-    if is(k, b"switch") {
+    if k == SWITCH {
         return controller::settings::set_ls(c, on);
     }
     c
 }
 
-fn others(c: Controller, k: u64, n: u16) -> Controller {
-    if is(k, b"status") {
+fn others(c: Controller, k: usize, n: u16) -> Controller {
+    if k == STATUS {
         return controller::settings::set_status(c, n);
     }
-    if is(k, b"clear") {
+    if k == CLEAR {
         return controller::settings::clear_ec(c);
     }
-    if is(k, b"reset") {
+    if k == RESET {
         return controller::settings::reset();
     }
     c
 }
 
-pub(crate) fn run(c: Controller, k: u64, n: u16) -> Controller {
+pub(crate) fn run(c: Controller, k: usize, n: u16) -> Controller {
     others(of_lines(with_range(c, k, n), k, n == 1), k, n)
 }

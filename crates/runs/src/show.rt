@@ -6,7 +6,13 @@
 // of each page. `areas` is a sum of each area, in which each word at each place counts. `same` says whether all of that is as it was at the
 // last `mark`.
 use crate::bits::least;
-use crate::line::is;
+use crate::desk::Desk;
+use crate::names::AREAS;
+use crate::names::MARK;
+use crate::names::PAGES;
+use crate::names::PORT;
+use crate::names::SAME;
+use crate::names::STATE;
 use crate::numbers::numbers_of;
 use crate::say;
 use areas::layout::get;
@@ -67,14 +73,18 @@ fn state(c: Controller) {
     say::end();
 }
 
+fn word(area: &[u16], at: usize) {
+    say::named(b" ", get(area, at));
+}
+
 fn port(index: &[u16], ports: &[u16], a: u16) {
     let e = get(index, a as usize);
     let at = e as usize * 4;
     say::named(b"port ", e);
-    say::named(b" ", get(ports, at));
-    say::named(b" ", get(ports, at + 1));
-    say::named(b" ", get(ports, at + 2));
-    say::named(b" ", get(ports, at + 3));
+    word(ports, at);
+    word(ports, at + 1);
+    word(ports, at + 2);
+    word(ports, at + 3);
     say::end();
 }
 
@@ -99,15 +109,17 @@ fn pages(index: &[u16], page0: &[u16], page1: &[u16], a: u16) {
     say::end();
 }
 
+fn area(s: &[u16]) {
+    say::text(b" ");
+    say::number(sum(0, s));
+}
+
 fn areas(index: &[u16], ports: &[u16], page0: &[u16], page1: &[u16]) {
-    say::text(b"areas ");
-    say::number(sum(0, index));
-    say::text(b" ");
-    say::number(sum(0, ports));
-    say::text(b" ");
-    say::number(sum(0, page0));
-    say::text(b" ");
-    say::number(sum(0, page1));
+    say::text(b"areas");
+    area(index);
+    area(ports);
+    area(page0);
+    area(page1);
     say::end();
 }
 
@@ -125,28 +137,28 @@ pub(crate) fn run(
     ports: &[u16],
     page0: &[u16],
     page1: &[u16],
-    c: Controller,
-    mark: u64,
-    k: u64,
+    d: Desk,
+    k: usize,
     a: u16,
 ) -> u64 {
-    if is(k, b"state") {
+    let c = d.controller;
+    if k == STATE {
         state(c);
     }
-    if is(k, b"port") {
+    if k == PORT {
         port(index, ports, a);
     }
-    if is(k, b"pages") {
+    if k == PAGES {
         pages(index, page0, page1, a);
     }
-    if is(k, b"areas") {
+    if k == AREAS {
         areas(index, ports, page0, page1);
     }
-    if is(k, b"same") {
-        compared(mark, whole(index, ports, page0, page1, c));
+    if k == SAME {
+        compared(d.mark, whole(index, ports, page0, page1, c));
     }
-    if is(k, b"mark") {
+    if k == MARK {
         return whole(index, ports, page0, page1, c);
     }
-    mark
+    d.mark
 }

@@ -1,19 +1,22 @@
-// The areas, the controller and the two lines, from line to line of the script.
+// One line of the script, over the areas and the desk.
+use crate::desk::Desk;
+use crate::desk::Lent;
 use crate::groups;
 use crate::hearing::hearing_of;
-use crate::lent::Lent;
 use crate::lent::calls;
-use crate::lent::full;
-use crate::lent::lengths;
 use crate::line::KEPT;
 use crate::line::Line;
-use crate::line::is;
-use crate::line::line_of;
+use crate::names::A;
+use crate::names::B;
+use crate::names::BOTH;
+use crate::names::ENTRY;
+use crate::names::LENGTHS;
+use crate::names::WORD;
 use crate::settings;
 use crate::show;
 use areas::layout::put;
+use choice::either;
 use frames::Hearing;
-use model::Controller;
 
 // The areas have a word more than document 01's, so that one can be lent too long.
 pub(crate) const INDEX: usize = 4097;
@@ -22,80 +25,40 @@ pub(crate) const PORTS: usize = 1025;
 
 pub(crate) const PAGE: usize = 4097;
 
-// What is kept from line to line but the areas: the controller, what each line hears, the last mark and the lengths.
-pub(crate) struct Desk {
-    controller: Controller,
-    a: Hearing,
-    b: Hearing,
-    mark: u64,
-    lent: Lent,
-}
-
-pub(crate) fn fresh() -> Desk {
-    let controller = controller::settings::reset();
-    let silence = hearing_of(line_of(b""));
-    let lent = full();
-    Desk {
-        controller,
-        a: silence,
-        b: silence,
-        mark: 0,
-        lent,
-    }
-}
-
-fn clear(s: &mut [u16]) {
-    let mut i: usize = 0;
-    while i < s.len() {
-        s[i] = 0;
-        i += 1;
-    }
-}
-
 // What a line hears from here on, if the script's line names it or both.
-fn heard(h: Hearing, name: &[u8], l: Line) -> Hearing {
+fn heard(h: Hearing, name: usize, l: Line) -> Hearing {
     let k = l.command;
-    if is(k, name) {
-        return hearing_of(l);
-    }
-    if is(k, b"both") {
+    if either(k == name, k == BOTH) {
         return hearing_of(l);
     }
     h
 }
 
+fn lengths(n: Lent, k: usize, w: [u16; KEPT]) -> Lent {
+    if k == LENGTHS {
+        return Lent {
+            index: w[0] as usize,
+            ports: w[1] as usize,
+            page0: w[2] as usize,
+            page1: w[3] as usize,
+        };
+    }
+    n
+}
+
 // A word of an area is replaced.
-fn damage(area: &mut [u16], wanted: bool, at: u16, v: u16) {
-    if !wanted {
-        return;
+fn damage(area: &mut [u16], wanted: bool, w: [u16; KEPT]) {
+    if wanted {
+        put(area, w[0] as usize, w[1]);
     }
-    put(area, at as usize, v);
 }
 
-fn begin(
-    index: &mut [u16; INDEX],
-    ports: &mut [u16; PORTS],
-    page0: &mut [u16; PAGE],
-    page1: &mut [u16; PAGE],
-    d: Desk,
-    k: u64,
-) -> Desk {
-    if is(k, b"begin") {
-        clear(index);
-        clear(ports);
-        clear(page0);
-        clear(page1);
-        return fresh();
-    }
-    d
-}
-
-// What the line changes of all that but the areas and the mark.
+// What the line changes of the desk but the mark, before any call is made.
 fn told(d: Desk, l: Line) -> Desk {
     let k = l.command;
     let w = l.words;
-    let a = heard(d.a, b"a", l);
-    let b = heard(d.b, b"b", l);
+    let a = heard(d.a, A, l);
+    let b = heard(d.b, B, l);
     let lent = lengths(d.lent, k, w);
     let controller = groups::run(settings::run(d.controller, k, w[0]), k, w[0], w[1]);
     Desk {
@@ -107,22 +70,6 @@ fn told(d: Desk, l: Line) -> Desk {
     }
 }
 
-// What the line changes of the areas before any call is made.
-fn prepared(
-    index: &mut [u16; INDEX],
-    ports: &mut [u16; PORTS],
-    page0: &mut [u16; PAGE],
-    page1: &mut [u16; PAGE],
-    d: Desk,
-    k: u64,
-    w: [u16; KEPT],
-) -> Desk {
-    damage(index, is(k, b"entry"), w[0], w[1]);
-    damage(ports, is(k, b"word"), w[0], w[1]);
-    begin(index, ports, page0, page1, d, k)
-}
-
-// One line of the script.
 pub(crate) fn step(
     index: &mut [u16; INDEX],
     ports: &mut [u16; PORTS],
@@ -133,17 +80,12 @@ pub(crate) fn step(
 ) -> Desk {
     let k = l.command;
     let w = l.words;
-    let d = told(prepared(index, ports, page0, page1, before, k, w), l);
-    let a = d.a;
-    let b = d.b;
-    let lent = d.lent;
-    let controller = calls(index, ports, page0, page1, lent, d.controller, a, b, l);
-    let mark = show::run(index, ports, page0, page1, controller, d.mark, k, w[0]);
-    Desk {
-        controller,
-        a,
-        b,
-        mark,
-        lent,
-    }
+    damage(index, k == ENTRY, w);
+    damage(ports, k == WORD, w);
+    let mut d = told(before, l);
+    let c = calls(index, ports, page0, page1, d, l);
+    d.controller = c;
+    let mark = show::run(index, ports, page0, page1, d, k, w[0]);
+    d.mark = mark;
+    d
 }

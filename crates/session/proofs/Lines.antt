@@ -7,15 +7,16 @@ use native.Mathlib.Nat.{add-suc}
 use native.Mathlib.Numerals.{add-one}
 use native.Mathlib.Omega.{arith}
 use lib.Dec.{eqb}
-use lib.ListN.{length, drop, length-drop, drop-of-length-le}
-use lib.Seq.{drop-drop}
+use lib.ListN.{length, drop, take, length-drop, drop-of-length-le}
+use lib.Seq.{drop-drop, take-all}
 use Rattle.digits.specs.Cut.{before, after, until}
-use Rattle.digits.specs.Write.{Paper, onto}
+use Rattle.digits.specs.Write.{Paper, paper, onto}
 use Rattle.digits.proofs.Cutting.{until-within, drop-until}
 use Rattle.digits.proofs.Pasting.{onto-more}
-use Rattle.text.specs.declared.Key.{Key}
-use Rattle.text.specs.Line.{keyOf, lineAs, lineOf}
-use Rattle.session.specs.Meaning.{State, Step, meaning, Ended, endedBy}
+use Rattle.model.specs.Layout.{Areas}
+use Rattle.text.specs.Line.{lineOf}
+use Rattle.meaning.specs.declared.Stepped.{Stepped}
+use Rattle.meaning.specs.Meaning.{State, Step, begun, stateOf, meaning, Ended, endedBy}
 use Rattle.text.specs.Report.{refusedText}
 use Rattle.session.specs.Printed.{onFirst, lines, printedFrom}
 
@@ -40,18 +41,15 @@ pub lines-some : (t : List ℕ) → 0 < length t → lines t ≡ before 10 t ∷
 lines-some [] h = absurd (let z : 0 < 0 = h in omega arith)
 lines-some (c ∷ cs) h = lines-next c cs
 
--- ---- a line by its key
-
-pub line-as : (t k v : List ℕ) (key known : Key) → key ≡ keyOf k → k ≡ before 61 t → v ≡ after 61 t → key ≡ known
-    → lineOf t ≡ lineAs known v
-unfolding lineOf
-line-as t k v key known e b a h = rw (← b, ← a, ← e, h)
-
 -- ---- where the next line begins
 
-module _ (t : List ℕ) (i n : ℕ) (h : i < length t) (e : n ≡ until 10 (drop i t)) where
+-- n is where the newline was found in the rest of the text
+module _ (t : List ℕ) (i n : ℕ) (h : i < length t) (found : n ≡ until 10 (take (length t - i) (drop i t))) where
+  e : n ≡ until 10 (drop i t)
+  e = found ∙ ap (until 10) (take-all (length t - i) (drop i t) (omega (arith, length-drop i t)))
+
   pub next-within : i + n ≤ length t
-  next-within = omega (arith, until-within 10 (drop i t), length-drop i t)
+  next-within = omega (arith, e, until-within 10 (drop i t), length-drop i t)
 
   pub next-in : drop (i + n + 1) t ≡ after 10 (drop i t)
   next-in = rw (add-one (i + n), ← add-suc i n, ← drop-drop (suc n) i t, e) (drop-until 10 (drop i t))
@@ -62,12 +60,21 @@ module _ (t : List ℕ) (i n : ℕ) (h : i < length t) (e : n ≡ until 10 (drop
       rw (drop-of-length-le t k)
       (sym (drop-of-length-le t past) ∙ sym (drop-drop (suc n) i t) ∙ rw e (drop-until 10 (drop i t)))
 
--- ---- one line of what is printed
+-- ---- what is printed from the start
 
-module _ (p q : Paper) (l : List ℕ) (ls : List (List ℕ)) (s next : State) (n : ℕ)
+pub from-start : (o t : List ℕ) (m : Areas) (s : Stepped) → s ≡ begun
+    → onto (paper o (s .at)) (printedFrom (lines t) (stateOf m s)) ≡ onto (paper o 0) (printedFrom (lines t) (stateOf m begun))
+from-start o t m s e = ap (λ (x : Stepped). onto (paper o (x .at)) (printedFrom (lines t) (stateOf m x))) e
+
+-- ---- one line of what is printed: the line l at the place i
+
+module _ (p q : Paper) (t : List ℕ) (i : ℕ) (l : List ℕ) (s next : State) (n : ℕ) (h : i < length t) (b : l ≡ before 10 (drop i t))
     (e : _≡_ {A = Ended} (record { refusal = n; next = next; out = q }) (endedBy p (meaning (lineOf l) s))) where
   abbrev x : Step
   x = meaning (lineOf l) s
+
+  abbrev rest : List (List ℕ)
+  rest = lines (after 10 (drop i t))
 
   number : n ≡ x .refusal
   number = ap (λ (r : Ended). r .refusal) e
@@ -75,14 +82,19 @@ module _ (p q : Paper) (l : List ℕ) (ls : List (List ℕ)) (s next : State) (n
   on : q ≡ onto p (x .said)
   on = ap (λ (r : Ended). r .out) e
 
-  pub printed-on : eqb n 0 ≡ true → onto q (printedFrom ls next) ≡ onto p (printedFrom (l ∷ ls) s)
+  split : lines (drop i t) ≡ l ∷ rest
+  split =
+      let some : 0 < length (drop i t) = omega (arith, length-drop i t) in
+      lines-some (drop i t) some ∙ ap (λ (y : List ℕ). y ∷ rest) (sym b)
+
+  pub printed-on : eqb n 0 ≡ true → onto q (printedFrom rest next) ≡ onto p (printedFrom (lines (drop i t)) s)
   unfolding printedFrom
   printed-on k =
       let z : eqb (x .refusal) 0 ≡ true = ap (λ (r : ℕ). eqb r 0) (sym number) ∙ k in
-      rw (z, on, ap (λ (r : Ended). r .next) e) (onto-more p (x .said) (printedFrom ls (x .next)))
+      rw (split, z, on, ap (λ (r : Ended). r .next) e) (onto-more p (x .said) (printedFrom rest (x .next)))
 
-  pub printed-stop : eqb n 0 ≡ false → onto q (refusedText n) ≡ onto p (printedFrom (l ∷ ls) s)
+  pub printed-stop : eqb n 0 ≡ false → onto q (refusedText n) ≡ onto p (printedFrom (lines (drop i t)) s)
   unfolding printedFrom
   printed-stop k =
       let z : eqb (x .refusal) 0 ≡ false = ap (λ (r : ℕ). eqb r 0) (sym number) ∙ k in
-      rw (z, on, number) (onto-more p (x .said) (refusedText (x .refusal)))
+      rw (split, z, on, number) (onto-more p (x .said) (refusedText (x .refusal)))

@@ -5,9 +5,9 @@ use mathlib.Core.List.{List, [], _∷_, _++_}
 use lib.Dec.{eqb}
 use Rattle.model.specs.Calls.{start}
 use Rattle.model.specs.Layout.{Areas}
-use Rattle.session.specs.declared.Setup.{Setup}
+use Rattle.meaning.specs.declared.Setup.{Setup}
 use Rattle.text.specs.Line.{lineOf}
-use Rattle.session.specs.Meaning.{freshSetup, State, state, whole, meaning}
+use Rattle.meaning.specs.Meaning.{freshSetup, State, state, whole, meaning}
 use Rattle.text.specs.Report.{report, refusedText}
 
 -- ---- the lines of a text: a newline ends one, and the last newline may be missing

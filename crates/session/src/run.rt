@@ -4,30 +4,15 @@ ghost use Prim.Native.Nat.{_<_, _≤_};
 ghost use lib.ListN.{length, drop};
 ghost use Rattle.digits.specs.Cut.{before, after};
 ghost use Rattle.digits.specs.Write.{paper, onto, pasted};
-ghost use Rattle.model.specs.Event.{world};
-ghost use Rattle.model.specs.Host.{freshController};
 ghost use Rattle.areas.specs.Lent.{lent};
-ghost use Rattle.session.specs.Meaning.{freshSetup, state};
+ghost use Rattle.meaning.specs.Meaning.{stateOf, begun};
 ghost use Rattle.session.specs.Printed.{lines, endText, printedFrom, printed};
-use crate::Setup;
-use crate::calls;
-use crate::step;
-use controller::settings;
 use digits::cut;
+use meaning::Stepped;
+use meaning::calls;
+use meaning::step;
 use text::report;
 use text::say;
-
-// At the start an address is due.
-fn fresh_setup() -> Setup
-    ensures { λ r. ⌜ r ≡ freshSetup ⌝ }
-{
-    Setup {
-        stage: 0,
-        addr: 0,
-        code: 0,
-        sink: false,
-    }
-}
 
 // At the end: the open ports; a port that is described in part is refused.
 fn finish<'a>(
@@ -36,19 +21,18 @@ fn finish<'a>(
     page0: &'a [u16],
     page1: &'a [u16],
     out: &mut [u8],
-    u: Setup,
-    at: usize,
+    s: Stepped,
 ) -> usize
     ensures { λ r. ⌜
         paper (now (out .exit)) r ≡
-        onto (paper (now (out .entry)) at) (endText u (lent (index .entry) (ports .entry) (page0 .entry) (page1 .entry)))
+        onto (paper (now (out .entry)) (s .at)) (endText (s .setup) (lent (index .entry) (ports .entry) (page0 .entry) (page1 .entry)))
         ⌝ }
 {
-    let whole = calls::is_whole(u);
+    let whole = calls::is_whole(s.setup);
     if whole {
-        return report::put_report(index, ports, page0, page1, out, at);
+        return report::put_report(index, ports, page0, page1, out, s.at);
     }
-    say::put_refused(out, at, calls::TEXT)
+    say::put_refused(out, s.at, calls::TEXT)
 }
 
 // The line that begins at i.
@@ -87,27 +71,21 @@ fn lines(
         paper (now (out .exit)) r ≡
         onto (paper (now (out .entry)) 0)
         (printedFrom (lines (now (input .entry)))
-        (state freshSetup (world freshController (lent (index .entry) (ports .entry) (page0 .entry) (page1 .entry)))))
+        (stateOf (lent (index .entry) (ports .entry) (page0 .entry) (page1 .entry)) begun))
         ⌝ }
 {
-    let mut c = settings::reset();
-    let mut u = fresh_setup();
-    let mut at: usize = 0;
+    let mut s = calls::begin();
     let mut i: usize = 0;
     while i < input.len() {
-        let s = step::step(index, ports, page0, page1, out, c, u, at, line_at(input, i));
-        let no = s.refusal;
-        at = s.at;
-        let ok = no == 0;
+        s = step::step(index, ports, page0, page1, out, s, line_at(input, i));
+        let ok = s.refusal == 0;
         if ok {
-            c = s.controller;
-            u = s.setup;
             i = next_line(input, i);
         } else {
-            return say::put_refused(out, at, no);
+            return say::put_refused(out, s.at, s.refusal);
         }
     }
-    finish(index, ports, page0, page1, out, u, at)
+    finish(index, ports, page0, page1, out, s)
 }
 
 // What the port program prints of its input goes into the buffer, as far as there is room; the length of all of it comes back, or the

@@ -1,7 +1,7 @@
 -- The frame that two lists of numbers describe, from what reading them leaves; and the words of a write. Assumes nothing.
 use Prim.Native.Nat.{ℕ, suc, _≤_}
 use mathlib.Core.Path.{_≡_, refl, sym, _∙_, ap}
-use mathlib.Core.Bool.{Bool, true, false, cond, not, _&&_, _||_, false≢true}
+use mathlib.Core.Bool.{Bool, true, false, cond, not, _&&_, _||_}
 use mathlib.Core.List.{List, [], _∷_, map}
 use native.Mathlib.Nat.{suc-ne-zero, suc-inj}
 use native.Mathlib.Omega.{arith}
@@ -10,22 +10,14 @@ use lib.Dec.{eqb, leb, ltb, leb·suc-suc}
 use lib.ListN.{length, getD, set, take, replicate}
 use lib.Seq.{sets, take-nil}
 use Rattle.digits.specs.declared.Listed.{Listed}
-use Rattle.digits.specs.Cut.{has}
-use Rattle.digits.specs.Read.{cut, Numbers, listed, words, largest, Reading, reading, readingOf}
+use Rattle.digits.specs.Cut.{before, after, has}
+use Rattle.digits.specs.Read.{cut, Numbers, numbersIn, listed, largest, Reading, reading, readingOf}
+use Rattle.digits.proofs.Items.{told}
 use Rattle.digits.proofs.Limits.{cut-same, map-sets}
 use Rattle.frames.specs.declared.Kind.{Kind}
 use Rattle.frames.specs.declared.Hearing.{Hearing}
-use Rattle.text.specs.Line.{frame, malformed, below, firstOf, secondOf, isFrame, hearingOf, kept}
-
--- ---- tests that hold together
-
-pub and-left : (a b : Bool) → (a && b) ≡ true → a ≡ true
-and-left true b e = refl
-and-left false b e = absurd (false≢true e)
-
-pub and-right : (a b : Bool) → (a && b) ≡ true → b ≡ true
-and-right true b e = e
-and-right false b e = absurd (false≢true e)
+use Rattle.model.proofs.Formed.{and-left, and-right}
+use Rattle.text.specs.Line.{below, firstOf, secondOf, isFrame, unmarked, hearingOf, readAs, frameRead, kept}
 
 -- ---- an array of four
 
@@ -37,56 +29,72 @@ four (a ∷ b ∷ c ∷ []) e = absurd (suc-ne-zero 0 (sym (suc-inj (suc-inj (su
 four (a ∷ b ∷ c ∷ d ∷ []) e = refl
 four (a ∷ b ∷ c ∷ d ∷ x ∷ l) e = absurd (suc-ne-zero (length l) (suc-inj (suc-inj (suc-inj (suc-inj e)))))
 
--- ---- lists below a limit
+-- ---- lists of which no number is above `most`
 
-pub small : (limit : ℕ) (n : Numbers) → below limit n ≡ true → map (cut limit) (n .values) ≡ n .values
-small limit n e =
-    let h : leb (largest 0 (n .values)) limit ≡ true = and-right (n .good) (leb (largest 0 (n .values)) limit) e in
-    cut-same limit 0 (n .values) (leb-true (largest 0 (n .values)) limit h)
+module _ (n : Numbers) (most : ℕ) (e : below most n ≡ true) where
+  -- cut to a limit that is no smaller, they are what they are
+  small : (limit : ℕ) → most ≤ limit → map (cut limit) (n .values) ≡ n .values
+  small limit h =
+      let k : leb (largest 0 (n .values)) most ≡ true = and-right (n .good) (leb (largest 0 (n .values)) most) e in
+      cut-same limit 0 (n .values) (omega (arith, leb-true (largest 0 (n .values)) most k))
 
--- what is below the last byte is below the last word
-pub smaller : (n : Numbers) → below 255 n ≡ true → words n ≡ n .values
-smaller n e =
-    let k : leb (largest 0 (n .values)) 255 ≡ true = and-right (n .good) (leb (largest 0 (n .values)) 255) e in
-    let h : largest 0 (n .values) ≤ 255 = leb-true (largest 0 (n .values)) 255 k in
-    cut-same 65535 0 (n .values) (omega arith)
+  -- read as words, they are stored as they are
+  small-stored : (into ws : List ℕ) (l : Listed) → most ≤ 65535 → reading ws l ≡ readingOf into n → ws ≡ sets into 0 (n .values)
+  small-stored into ws l h r = ap (λ (x : Reading). x .store) r ∙ ap (sets into 0) (small 65535 h)
 
--- a frame without a quality mark
-abbrev heardAs : Kind → List ℕ → ℕ → List ℕ → ℕ → Hearing
-heardAs kind ws n cs m =
-    record { kind = kind; words = ws; size = n; checks = cs; ends = m; sqe = false; violation = false; alo = false }
+module _ (one : Bool) (b : ℕ) (v ws cs t u : List ℕ) (x y : Listed) (front : t ≡ before b v) (back : u ≡ after b v)
+    (read-words : reading ws x ≡ readingOf (replicate 16 0) (numbersIn t))
+    (read-checks : reading cs y ≡ readingOf (replicate 4 0) (numbersIn u)) where
+  e : reading ws x ≡ readingOf (replicate 16 0) (firstOf b v)
+  e = read-words ∙ ap (λ (l : List ℕ). readingOf (replicate 16 0) (numbersIn l)) front
 
-module _ (one : Bool) (b : ℕ) (v ws cs : List ℕ) (x y : Listed) (e : reading ws x ≡ readingOf (replicate 16 0) (firstOf b v))
-    (f : reading cs y ≡ readingOf (replicate 4 0) (secondOf b v)) where
+  f : reading cs y ≡ readingOf (replicate 4 0) (secondOf b v)
+  f = read-checks ∙ ap (λ (l : List ℕ). readingOf (replicate 4 0) (numbersIn l)) back
+
   first : x ≡ listed (firstOf b v)
-  first = ap (λ (r : Reading). r .told) e
+  first = told (replicate 16 0) ws x (firstOf b v) e
 
   second : y ≡ listed (secondOf b v)
-  second = ap (λ (r : Reading). r .told) f
+  second = told (replicate 4 0) cs y (secondOf b v) f
 
-  pub frame-good : (has b v && (x .good && leb (x .largest) 65535) && (y .good && leb (y .largest) 255)
-      && (not one || (eqb (x .count) 1 && eqb (y .count) 1))) ≡ isFrame one b v
+  -- what the code tests of the lists
+  abbrev tests : Bool → Bool
+  tests apart =
+      apart && (x .good && leb (x .largest) 65535) && (y .good && leb (y .largest) 255)
+      && (not one || (eqb (x .count) 1 && eqb (y .count) 1))
+
+  frame-good : tests (has b v) ≡ isFrame one b v
   unfolding isFrame
   frame-good = rw (first, second)
 
-  pub frame-heard : (kind : Kind) → isFrame one b v ≡ true
-      → heardAs kind ws (x .count) (map (cut 255) cs) (y .count) ≡ hearingOf kind (firstOf b v .values) (secondOf b v .values)
+  frame-heard : (kind : Kind) → isFrame one b v ≡ true
+      → unmarked kind ws (x .count) (map (cut 255) cs) (y .count) ≡ hearingOf kind (firstOf b v .values) (secondOf b v .values)
   unfolding isFrame hearingOf
   frame-heard kind g =
       let pair = not one || (eqb (length (firstOf b v .values)) 1 && eqb (length (secondOf b v .values)) 1) in
-      let front = has b v && below 65535 (firstOf b v) in
-      let lists : (front && below 255 (secondOf b v)) ≡ true = and-left (front && below 255 (secondOf b v)) pair g in
+      let words = has b v && below 65535 (firstOf b v) in
+      let lists : (words && below 255 (secondOf b v)) ≡ true = and-left (words && below 255 (secondOf b v)) pair g in
       let one : below 65535 (firstOf b v) ≡ true
-      = and-right (has b v) (below 65535 (firstOf b v)) (and-left front (below 255 (secondOf b v)) lists) in
-      let two : below 255 (secondOf b v) ≡ true = and-right front (below 255 (secondOf b v)) lists in
-      let w : ws ≡ sets (replicate 16 0) 0 (firstOf b v .values)
-      = ap (λ (r : Reading). r .store) e ∙ ap (λ (l : List ℕ). sets (replicate 16 0) 0 l) (small 65535 (firstOf b v) one) in
-      let c : cs ≡ sets (replicate 4 0) 0 (secondOf b v .values)
-      = ap (λ (r : Reading). r .store) f ∙ ap (λ (l : List ℕ). sets (replicate 4 0) 0 l) (smaller (secondOf b v) two) in
+      = and-right (has b v) (below 65535 (firstOf b v)) (and-left words (below 255 (secondOf b v)) lists) in
+      let two : below 255 (secondOf b v) ≡ true = and-right words (below 255 (secondOf b v)) lists in
+      let w = small-stored (firstOf b v) 65535 one (replicate 16 0) ws x (omega arith) e in
+      let c = small-stored (secondOf b v) 255 two (replicate 4 0) cs y (omega arith) f in
       let d : map (cut 255) cs ≡ sets (replicate 4 0) 0 (secondOf b v .values)
       = ap (map (cut 255)) c ∙ map-sets (cut 255) (replicate 4 0) 0 (secondOf b v .values)
-      ∙ ap (λ (l : List ℕ). sets (replicate 4 0) 0 l) (small 255 (secondOf b v) two) in
+      ∙ ap (sets (replicate 4 0) 0) (small (secondOf b v) 255 two 255 (omega arith)) in
       rw (first, second, w, d)
+
+  module _ (kind : Kind) (good apart : Bool) (tested : good ≡ tests apart) (cut-apart : apart ≡ has b v) where
+    good-is : good ≡ isFrame one b v
+    good-is = tested ∙ ap tests cut-apart ∙ frame-good
+
+    pub read-good : good ≡ true → readAs true (unmarked kind ws (x .count) (map (cut 255) cs) (y .count)) ≡ frameRead kind one b v
+    unfolding frameRead
+    read-good h = let k = sym good-is ∙ h in rw k (ap (readAs true) (frame-heard kind k))
+
+    pub read-malformed : good ≡ false → readAs false (hearingOf kind [] []) ≡ frameRead kind one b v
+    unfolding frameRead
+    read-malformed h = rw (sym good-is ∙ h)
 
 -- ---- the words of a write
 
@@ -119,24 +127,14 @@ cut-most limit v = go (ltb limit v) refl
     go false e = ltb-false limit v e
 
 module _ (v ws : List ℕ) (l : Listed) (e : reading ws l ≡ readingOf (replicate 17 0) (secondOf 59 v)) where
-  told : l ≡ listed (secondOf 59 v)
-  told = ap (λ (r : Reading). r .told) e
+  list : l ≡ listed (secondOf 59 v)
+  list = told (replicate 17 0) ws l (secondOf 59 v) e
 
   pub write-good : (has 59 v && (l .good && leb (l .largest) 65535)) ≡ (has 59 v && below 65535 (secondOf 59 v))
-  write-good = rw told
+  write-good = rw list
 
   pub write-kept : (has 59 v && below 65535 (secondOf 59 v)) ≡ true → take (cut 17 (l .count)) ws ≡ kept (secondOf 59 v .values)
   write-kept h =
-      let small : map (cut 65535) (secondOf 59 v .values) ≡ secondOf 59 v .values
-      = small 65535 (secondOf 59 v) (and-right (has 59 v) (below 65535 (secondOf 59 v)) h) in
-      let w : ws ≡ sets (replicate 17 0) 0 (secondOf 59 v .values)
-      = ap (λ (r : Reading). r .store) e ∙ ap (λ (r : List ℕ). sets (replicate 17 0) 0 r) small in
-      rw (told, w) (stored (replicate 17 0) (secondOf 59 v .values))
-
--- a frame by whether its line is well formed
-pub framed-by : (g h : Bool) (x y : Hearing) → g ≡ h → (h ≡ true → x ≡ y) → cond g (frame x) malformed ≡ cond h (frame y) malformed
-framed-by g h x y e f = rw e (go h f)
-  where
-    go : (b : Bool) → (b ≡ true → x ≡ y) → cond b (frame x) malformed ≡ cond b (frame y) malformed
-    go true k = ap frame (k refl)
-    go false k = refl
+      let below : below 65535 (secondOf 59 v) ≡ true = and-right (has 59 v) (below 65535 (secondOf 59 v)) h in
+      rw (list, small-stored (secondOf 59 v) 65535 below (replicate 17 0) ws l (omega arith) e)
+      (stored (replicate 17 0) (secondOf 59 v .values))

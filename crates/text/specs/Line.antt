@@ -1,7 +1,7 @@
 -- Document 01, "Numbers on either side": what a line of the port program's input says. Assumes nothing.
 use Prim.Native.Nat.{ℕ}
 use mathlib.Core.Bool.{Bool, true, false, cond, not, _&&_, _||_}
-use mathlib.Core.List.{List}
+use mathlib.Core.List.{List, []}
 use lib.Dec.{eqb, leb}
 use lib.ListN.{length, take, replicate}
 use lib.Seq.{sets}
@@ -69,24 +69,24 @@ unfoldable pub isFrame : Bool → ℕ → List ℕ → Bool
 isFrame one b v =
     has b v && below 65535 (firstOf b v) && below 255 (secondOf b v) && (not one || onePair (firstOf b v) (secondOf b v))
 
--- the frame as a line hears it, without a quality mark; with more words or check bytes than a hearing has room for it is out of range
+-- a frame without a quality mark
+abbrev pub unmarked : Kind → List ℕ → ℕ → List ℕ → ℕ → Hearing
+unmarked kind ws n cs k =
+    record { kind = kind; words = ws; size = n; checks = cs; ends = k; sqe = false; violation = false; alo = false }
+
+-- the frame as a line hears it; with more words or check bytes than a hearing has room for it is out of range
 unfoldable pub hearingOf : Kind → List ℕ → List ℕ → Hearing
-hearingOf kind ws cs =
-    record {
-      kind = kind;
-      words = padded ws;
-      size = length ws;
-      checks = sets (replicate 4 0) 0 cs;
-      ends = length cs;
-      sqe = false;
-      violation = false;
-      alo = false;
-    }
+hearingOf kind ws cs = unmarked kind (padded ws) (length ws) (sets (replicate 4 0) 0 cs) (length cs)
 
-unfoldable pub frameOf : Kind → Bool → ℕ → List ℕ → Line
-frameOf kind one b v = cond (isFrame one b v) (frame (hearingOf kind (firstOf b v .values) (secondOf b v .values))) malformed
+-- whether the line is well formed, and the frame that it says; one without words and check bytes where it is not
+abbrev pub readAs : Bool → Hearing → Frame
+readAs good h = record { good = good; hearing = h }
 
--- a frame that was read, if its line is well formed
+unfoldable pub frameRead : Kind → Bool → ℕ → List ℕ → Frame
+frameRead kind one b v =
+    cond (isFrame one b v) (readAs true (hearingOf kind (firstOf b v .values) (secondOf b v .values))) (readAs false (hearingOf kind [] []))
+
+-- the line of a frame that was read
 abbrev pub framed : Frame → Line
 framed f = cond (f .good) (frame (f .hearing)) malformed
 
@@ -109,8 +109,8 @@ lineAs Addr v = numbered (λ (n : ℕ). addr (cut 65535 n)) (numberIn v)
 lineAs Fcode v = numbered (λ (n : ℕ). fcode (cut 65535 n)) (numberIn v)
 lineAs Dir v = dirOf v
 lineAs Index v = numbered (λ (n : ℕ). index (cut 65535 n)) (numberIn v)
-lineAs Master v = frameOf MasterFrame true 44 v
-lineAs Slave v = frameOf SlaveFrame false 59 v
+lineAs Master v = framed (frameRead MasterFrame true 44 v)
+lineAs Slave v = framed (frameRead SlaveFrame false 59 v)
 lineAs Quiet v = numbered quiet (numberIn v)
 lineAs Write v = writeOf v
 lineAs Unknown v = malformed

@@ -18,9 +18,13 @@ use Rattle.model.specs.Calls.{asked, fetched}
 use Rattle.text.specs.Words.{wAddr, wFcode, wDir, wIndex, wState, wFills, wData, wReply, wRefused}
 use Rattle.text.specs.Words.{wSink, wSource, wNever, wGood, wHeld, wNone}
 
--- a line `key=value`, and one whose value is a number
+-- `key=`, before a value
+abbrev pub keyText : List ℕ → List ℕ
+keyText key = key ++ (61 ∷ [])
+
+-- a line `key=value`
 unfoldable pub lineText : List ℕ → List ℕ → List ℕ
-lineText key value = key ++ (61 ∷ []) ++ value ++ (10 ∷ [])
+lineText key value = keyText key ++ value ++ (10 ∷ [])
 
 -- `dir` is sink or source
 abbrev pub dirText : Bool → List ℕ
@@ -69,7 +73,7 @@ abbrev pub spokenText : Kind → Hearing → List ℕ
 spokenText Silence h = []
 spokenText Noise h = []
 spokenText Master h = []
-spokenText Slave h = wReply ++ (61 ∷ []) ++ commas (wordsOf h) ++ (59 ∷ []) ++ commas (take (h .ends) (h .checks)) ++ (10 ∷ [])
+spokenText Slave h = keyText wReply ++ commas (wordsOf h) ++ (59 ∷ []) ++ commas (take (h .ends) (h .checks)) ++ (10 ∷ [])
 
 unfoldable pub replyText : Hearing → List ℕ
 replyText h = spokenText (h .kind) h

@@ -2,7 +2,8 @@
 // that are printed (`say`): replies, refusals, and seven for each open port (`report`).
 //
 // Promised for all inputs: what a line says is specs/Line.antt, what is printed specs/Report.antt. Output goes into a lent buffer of any
-// length: past its end bytes are counted and not stored. Nothing is asked of the caller.
+// length: past its end bytes are counted and not stored. Nothing is asked of the caller. The lines `addr`, `fcode`, `dir` and `index` that
+// are printed of a port are read as its setup lines (proofs/Back.antt).
 pub mod line;
 pub mod report;
 pub mod say;

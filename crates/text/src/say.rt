@@ -2,31 +2,36 @@
 ghost use mathlib.Core.Path.{_≡_};
 ghost use lib.ListN.{take};
 ghost use Rattle.digits.specs.Write.{paper, onto, decimal, commas};
-ghost use Rattle.text.specs.Report.{replyText, spokenText};
-ghost use Rattle.text.specs.Report.{lineText, refusedText};
+ghost use Rattle.text.specs.Report.{keyText, lineText, refusedText, spokenText, replyText};
 ghost use Rattle.frames.specs.declared.Kind.the-variants.{Slave};
 use digits::write;
 use frames::Hearing;
 use frames::Kind;
 
+// `key=`, before a value.
+fn put_key(out: &mut [u8], at: usize, key: &[u8]) -> usize
+    ensures { λ r. ⌜ paper (now (out .exit)) r ≡ onto (paper (now (out .entry)) at) (keyText (now (key .entry))) ⌝ }
+{
+    let a = write::put_text(out, at, key);
+    write::put(out, a, b'=')
+}
+
 // A line `key=value`.
 pub fn put_line(out: &mut [u8], at: usize, key: &[u8], value: &[u8]) -> usize
     ensures { λ r. ⌜ paper (now (out .exit)) r ≡ onto (paper (now (out .entry)) at) (lineText (now (key .entry)) (now (value .entry))) ⌝ }
 {
-    let a = write::put_text(out, at, key);
-    let b = write::put(out, a, b'=');
-    let c = write::put_text(out, b, value);
-    write::put(out, c, b'\n')
+    let a = put_key(out, at, key);
+    let b = write::put_text(out, a, value);
+    write::put(out, b, b'\n')
 }
 
 // A line whose value is a number.
 pub fn put_numbered(out: &mut [u8], at: usize, key: &[u8], v: u16) -> usize
     ensures { λ r. ⌜ paper (now (out .exit)) r ≡ onto (paper (now (out .entry)) at) (lineText (now (key .entry)) (decimal v)) ⌝ }
 {
-    let a = write::put_text(out, at, key);
-    let b = write::put(out, a, b'=');
-    let c = write::put_number(out, b, v);
-    write::put(out, c, b'\n')
+    let a = put_key(out, at, key);
+    let b = write::put_number(out, a, v);
+    write::put(out, b, b'\n')
 }
 
 // A line whose value is a list of numbers.
@@ -35,10 +40,9 @@ pub fn put_listed(out: &mut [u8], at: usize, key: &[u8], vs: &[u16]) -> usize
         paper (now (out .exit)) r ≡ onto (paper (now (out .entry)) at) (lineText (now (key .entry)) (commas (now (vs .entry))))
         ⌝ }
 {
-    let a = write::put_text(out, at, key);
-    let b = write::put(out, a, b'=');
-    let c = write::put_list(out, b, vs);
-    write::put(out, c, b'\n')
+    let a = put_key(out, at, key);
+    let b = write::put_list(out, a, vs);
+    write::put(out, b, b'\n')
 }
 
 // `refused=N`.
@@ -83,12 +87,11 @@ fn put_frame(out: &mut [u8], at: usize, h: Hearing) -> usize
     let words = h.words;
     let bytes = h.checks;
     let checks = words_of(bytes);
-    let a = write::put_text(out, at, b"reply");
-    let b = write::put(out, a, b'=');
-    let c = write::put_list(out, b, front(&words, h.size));
-    let d = write::put(out, c, b';');
-    let e = write::put_list(out, d, front(&checks, h.ends));
-    write::put(out, e, b'\n')
+    let a = put_key(out, at, b"reply");
+    let b = write::put_list(out, a, front(&words, h.size));
+    let c = write::put(out, b, b';');
+    let d = write::put_list(out, c, front(&checks, h.ends));
+    write::put(out, d, b'\n')
 }
 
 // A reply, where the answer is a slave frame; nothing else is said.

@@ -1,5 +1,6 @@
--- One quiet bit time: the controller's part asks nothing of the areas, and each part of it as the code computes it. Assumes nothing.
-use Prim.Native.Nat.{ℕ, _+_}
+-- One quiet bit time: the controller's part asks nothing of the areas, each part of it as the code computes it, and one bit time after n.
+-- Assumes nothing.
+use Prim.Native.Nat.{ℕ, zero, suc, _+_}
 use mathlib.Core.Path.{_≡_, refl}
 use mathlib.Core.Bool.{Bool, true, false, cond, _&&_}
 use mathlib.Core.List.{_++_}
@@ -12,7 +13,7 @@ use Rattle.model.specs.declared.Exchange.{Exchange}
 use Rattle.model.specs.declared.Exchange.the-variants.{Idle, Waiting, Done}
 use Rattle.model.specs.declared.Times.{Times}
 use Rattle.model.specs.Event.{World, raiseAll, when}
-use Rattle.model.specs.Quiet.{busTimeout, sinceLater, expired, busSilent, isSome, tickController}
+use Rattle.model.specs.Quiet.{busTimeout, sinceLater, expired, busSilent, isSome, tickController, tick, ticks}
 use Rattle.timing.specs.Quiet.{tickOf, sinceAfter, dueIn}
 
 raise-both : (a b : Bool) (i j : ℕ) (g : Group) → raiseAll (when a i ++ when b j) g ≡ raiseAll (when b j) (raiseAll (when a i) g)
@@ -44,3 +45,9 @@ bus-next t = go (ltb (t .since) busTimeout) refl
     go : (b : Bool) → ltb (t .since) busTimeout ≡ b → (b && eqb (sinceAfter 1 (t .since)) busTimeout) ≡ (b && eqb (t .since + 1) busTimeout)
     go true e = let one : sinceAfter 1 (t .since) ≡ t .since + 1 = omega (arith, ltb-true (t .since) busTimeout e) in rw one
     go false e = refl
+
+-- n bit times and then one
+pub ticks-suc : (n : ℕ) (s : World) → ticks (suc n) s ≡ tick (ticks n s)
+unfolding ticks
+ticks-suc zero s = refl
+ticks-suc (suc n) s = ticks-suc n (tick s)

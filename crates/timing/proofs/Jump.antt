@@ -1,14 +1,13 @@
 -- Quiet time all at once: bit times that surely bring nothing only make the times later, whatever the controller holds. By one bit time
 -- after the other, none of which reaches a timeout or lets a rule act. Assumes nothing.
 use Prim.Native.Nat.{ℕ, zero, suc, _+_, _-_, _≤_, _<_, min}
-use mathlib.Core.Path.{_≡_, refl, sym, _∙_, ap}
+use mathlib.Core.Path.{_≡_, refl, _∙_, ap}
 use mathlib.Core.Bool.{Bool, true, false, cond, true≢false, and-false}
-use mathlib.Core.Option.{none}
+use mathlib.Core.Option.{none, some}
 use native.Mathlib.Nat.{zero-add, add-zero, suc-add}
-use native.Mathlib.Numerals.{add-one}
 use native.Mathlib.Omega.{arith}
-use lib.Dec.{ltb}
-use borrow.Author.Tests.{le-ltb, lt-leb, ne-eqb, ltb-false}
+use lib.Dec.{leb, ltb}
+use borrow.Author.Tests.{le-ltb, lt-leb, leb-false, ne-eqb, ltb-false}
 use Rattle.model.specs.declared.Exchange.{Exchange}
 use Rattle.model.specs.declared.Exchange.the-variants.{Idle, Waiting, Done}
 use Rattle.model.specs.declared.Times.{Times}
@@ -19,11 +18,13 @@ use Rattle.model.specs.Ports.{apply}
 use Rattle.model.specs.Lines.{lines, acts5, rule1, rule2, rule5}
 use Rattle.model.specs.Host.{controller}
 use Rattle.model.specs.Event.{World, world}
-use Rattle.model.specs.Quiet.{busTimeout, lineTimeout, times, sinceLater, expired, busSilent, lineSilent, linesLater, tickEffect}
-use Rattle.model.specs.Quiet.{tickController, tick, ticks}
+use Rattle.model.specs.Quiet.{busTimeout, lineTimeout, times, sinceLater, expired, busSilent, lineSilent, isSome, linesLater}
+use Rattle.model.specs.Quiet.{tickEffect, tickController, tick, ticks}
 use Rattle.timing.specs.Quiet.{sinceAfter}
-use Rattle.timing.specs.Jump.{beforeReply, beforeBus, beforeLine, beforeAny, free, later, jumped}
-use Rattle.timing.proofs.BitTime.{one-later}
+use Rattle.timing.specs.Jump.{beforeReply, beforeBus, beforeLine, beforeAny, free, later, passed, jumped}
+use Rattle.timing.specs.Settled.{settled, rolled}
+use Rattle.timing.proofs.BitTime.{one-later, ticks-suc}
+use Rattle.timing.proofs.Roll.{roll}
 
 -- rules 1, 2 and 5 without an occasion
 unmoved : (l : Lines) → acts5 l ≡ false → linesLater l none false ≡ l
@@ -51,7 +52,14 @@ module _ (n : ℕ) (t : Times) where
   no-reply : (x : Exchange) → n < beforeReply x t → expired x on ≡ none
   unfolding on
   no-reply Idle h = refl
-  no-reply (Waiting w) h = rw (lt-leb (t .adopted) (sinceLater on) (omega (arith, next)))
+  no-reply (Waiting w) h = go (leb (t .adopted) (sinceAfter lineTimeout (t .since))) refl h
+    where
+      go : (b : Bool) → leb (t .adopted) (sinceAfter lineTimeout (t .since)) ≡ b
+          → n < cond (isSome (cond b (some w) none)) (t .adopted - t .since - 1) lineTimeout → expired (Waiting w) on ≡ none
+      go true e k = rw (lt-leb (t .adopted) (sinceLater on) (omega (arith, next)))
+      go false e k =
+          let h = leb-false (t .adopted) (sinceAfter lineTimeout (t .since)) e in
+          rw (lt-leb (t .adopted) (sinceLater on) (omega (arith, next)))
   no-reply Done h = refl
 
   no-bus : n < beforeBus t → busSilent on ≡ false
@@ -106,14 +114,27 @@ unfolding ticks later
 jump zero s h =
     let since : sinceAfter 0 (s .controller .times .since) ≡ s .controller .times .since = omega arith in
     rw (since, add-zero)
-jump (suc n) s h =
-    ap (λ (k : ℕ). ticks k s) (sym (add-one n)) ∙ ticks-add n 1 s ∙ ap tick (jump n s (omega arith)) ∙ still n (s .controller) (s .areas) h
+jump (suc n) s h = ticks-suc n s ∙ ap tick (jump n s (omega arith)) ∙ still n (s .controller) (s .areas) h
+
+-- No jump leaves more bit times than there were.
+pub left-at-most : (n : ℕ) (c : Controller) → jumped n c .left ≤ n
+unfolding jumped
+left-at-most n c = go (settled c)
+  where
+    go : (b : Bool) → cond b (passed 0 (rolled n c)) (passed (n - min n (free c)) (later (min n (free c)) c)) .left ≤ n
+    go true = omega arith
+    go false = omega arith
 
 -- n bit times: a jump, and what is left of them.
 pub jump-on : (n : ℕ) (s : World)
     → ticks n s ≡ ticks (jumped n (s .controller) .left) (world (jumped n (s .controller) .controller) (s .areas))
-unfolding jumped
-jump-on n s =
-    let k = min n (free (s .controller)) in
-    let all : n ≡ k + (n - k) = omega arith in
-    ap (λ (j : ℕ). ticks j s) all ∙ ticks-add k (n - k) s ∙ ap (ticks (n - k)) (jump k s (omega arith))
+unfolding jumped ticks
+jump-on n s = go (settled (s .controller)) refl
+  where
+    go : (b : Bool) → settled (s .controller) ≡ b
+        → ticks n s ≡ ticks (jumped n (s .controller) .left) (world (jumped n (s .controller) .controller) (s .areas))
+    go true e = rw e (roll n s e)
+    go false e =
+        let k = min n (free (s .controller)) in
+        let all : n ≡ k + (n - k) = omega arith in
+        rw e (ap (λ (j : ℕ). ticks j s) all ∙ ticks-add k (n - k) s ∙ ap (ticks (n - k)) (jump k s (omega arith)))

@@ -1,3 +1,4 @@
 pub mod BitTime
+pub mod Roll
 pub mod Jump
 pub mod Within

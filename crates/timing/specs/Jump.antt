@@ -1,22 +1,21 @@
--- Document 01, "Quiet time": how many bit times surely bring nothing but later times, and the controller after as many. Assumes nothing.
+-- Document 01, "Quiet time": how many bit times surely bring nothing but later times, the controller after as many, and how far quiet time
+-- goes at once. Assumes nothing.
 use Prim.Native.Nat.{ℕ, _+_, _-_, min}
 use mathlib.Core.Bool.{cond}
 use lib.Dec.{ltb}
 use Rattle.model.specs.declared.Exchange.{Exchange}
-use Rattle.model.specs.declared.Exchange.the-variants.{Idle, Waiting, Done}
 use Rattle.model.specs.declared.Times.{Times}
 use Rattle.model.specs.declared.Controller.{Controller}
 use Rattle.model.specs.Host.{controller}
 use Rattle.model.specs.Lines.{acts5}
-use Rattle.model.specs.Quiet.{busTimeout, lineTimeout, times}
+use Rattle.model.specs.Quiet.{busTimeout, lineTimeout, times, isSome}
 use Rattle.timing.specs.declared.Passed.{Passed}
-use Rattle.timing.specs.Quiet.{sinceAfter}
+use Rattle.timing.specs.Quiet.{sinceAfter, dueIn}
+use Rattle.timing.specs.Settled.{settled, rolled}
 
--- before the reply time is reached; without a wait the line timeout comes first
+-- before the reply time is reached; where no word is due within the line timeout, that comes first
 abbrev pub beforeReply : Exchange → Times → ℕ
-beforeReply Idle t = lineTimeout
-beforeReply (Waiting w) t = t .adopted - t .since - 1
-beforeReply Done t = lineTimeout
+beforeReply x t = cond (isSome (dueIn lineTimeout x t)) (t .adopted - t .since - 1) lineTimeout
 
 -- before the bus timeout; once it is reached it does not come again
 abbrev pub beforeBus : Times → ℕ
@@ -40,6 +39,10 @@ later k c =
     controller (c .exchange) (times (sinceAfter k (c .times .since)) (c .times .line + k) (c .times .chosen) (c .times .adopted)) (c .lines)
     (c .counts) (c .group0) (c .group1) (c .device)
 
--- of n bit times, as many at once as surely bring nothing, and how many are left
+-- how many bit times are left, and the controller after the others
+abbrev pub passed : ℕ → Controller → Passed
+passed left c = record { left = left; controller = c }
+
+-- of n bit times all at once where nothing but line timeouts is to come, else as many as surely bring nothing; and how many are left
 unfoldable pub jumped : ℕ → Controller → Passed
-jumped n c = let k = min n (free c) in record { left = n - k; controller = later k c }
+jumped n c = let k = min n (free c) in cond (settled c) (passed 0 (rolled n c)) (passed (n - k) (later k c))

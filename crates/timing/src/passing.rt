@@ -1,6 +1,7 @@
-// Quiet bit times that surely bring nothing are passed at once.
+// Quiet bit times that surely bring nothing are passed at once, and those that bring line timeouts alone (`settled`).
 use crate::Passed;
 use crate::quiet;
+use crate::settled;
 use constants::BUS_TIMEOUT;
 use constants::LINE_TIMEOUT;
 use model::Controller;
@@ -24,15 +25,15 @@ fn below(a: u16, b: u16) -> u16
     if a < b { b - a } else { 0 }
 }
 
-// Bit times before the reply time is reached; without a wait the line timeout comes first.
+// Bit times before the reply time is reached; where no word is due within the line timeout, that comes first.
 fn before_reply(x: Exchange, t: Times) -> u16
     ensures { λ r. ⌜ r ≡ beforeReply x t ⌝ }
 {
-    match x {
-        Exchange::Idle => LINE_TIMEOUT,
-        Exchange::Waiting(_) => below(1, below(t.since, t.adopted)),
-        Exchange::Done => LINE_TIMEOUT,
+    let coming = quiet::is_due(quiet::due_within(LINE_TIMEOUT as u32, x, t));
+    if coming {
+        return below(1, below(t.since, t.adopted));
     }
+    LINE_TIMEOUT
 }
 
 // Bit times before the bus timeout; once it is reached it does not come again.
@@ -83,10 +84,17 @@ fn later(k: u16, c: Controller) -> Controller
     d
 }
 
-// Of n bit times, as many at once as surely bring nothing.
+// Of n bit times, all at once where nothing but line timeouts is to come, else as many as surely bring nothing.
 pub fn jump(n: u32, c: Controller) -> Passed
     ensures { λ r. ⌜ r ≡ jumped n c ⌝ }
 {
+    let only_line_timeouts = settled::settled(c);
+    if only_line_timeouts {
+        return Passed {
+            left: 0,
+            controller: settled::rolled(n, c),
+        };
+    }
     let k = least(n, free(c));
     Passed {
         left: n - k as u32,

@@ -104,7 +104,7 @@ fn exchange_later(x: Exchange, d: Due) -> Exchange
 }
 
 // A reply time is reached: RTI.
-fn is_due(d: Due) -> bool
+pub fn is_due(d: Due) -> bool
     ensures { λ r. ⌜ r ≡ isSome (dueWord d) ⌝ }
 {
     match d {

@@ -3,7 +3,7 @@
 // A line has words of one to four lower-case hexadecimal digits, with a space between two words and a newline at the end. Its answer
 // is `block=HH frame=HH,..`: the check byte of the line as one block, then those of its blocks as a frame. `block=range` stands where
 // the line is no block, and `frame=none` where it is no frame. Any other byte ends a word as a space does, of a longer word the last
-// four digits count, and what follows the last newline is not answered. Input of more than 65,536 bytes is `input too long`.
+// four digits count, and what follows the last newline is not answered. Input of 65,536 bytes or more is `input too long`.
 //
 // What must be printed, the file stdout, does not come from this program or from `sequence`: make.py divides bit by bit, from the
 // words of document 01, and writes stdin and stdout.
@@ -11,6 +11,9 @@ use libc::STDIN_FILENO;
 use libc::STDOUT_FILENO;
 use sequence::BlockCheck;
 use sequence::FrameChecks;
+
+// The length of the buffer. Where the input fills it, more of it may follow.
+const ROOM: usize = 65536;
 
 // How many words of a line are kept, the first ones: more than any frame has, so that a longer line is not taken for a frame.
 const KEPT: usize = 20;
@@ -148,17 +151,10 @@ fn answer_lines(text: &[u8]) {
     }
 }
 
-// Whether the input goes on after what was read.
-fn goes_on() -> bool {
-    let mut one = [0u8; 1];
-    let n = io::read_full(STDIN_FILENO, &mut one);
-    0 < n
-}
-
 fn main() {
     let mut buffer = io::large_buffer();
     let n = io::read_full(STDIN_FILENO, &mut buffer);
-    if goes_on() {
+    if n == ROOM {
         print(b"input too long\n");
         return;
     }

@@ -12,21 +12,6 @@ use borrow.Author.Needs.{needs}
 use Rattle.digits.proofs.cut.after.Statement.{statement}
 use Rattle.digits.proofs.cut.after.Tie as tie
 
-find-requires : tie.Need-find-requires
-find-requires c κs = search needs
-
-add-start : tie.Need-add-start
-add-start c = search needs
-
-sub-result : tie.Need-sub-result
-sub-result c = search needs
-
-part-result-start : tie.Need-part-result-start
-part-result-start c = search needs
-
-part-result-end : tie.Need-part-result-end
-part-result-end c = search needs
-
 returns : tie.Need-returns
 returns c =
     let a = c .before .before .before .before .args in
@@ -34,9 +19,6 @@ returns c =
     let n = c .before .before .find .result in
     let e : length (drop (n + 1) t) ≡ length t - (n + 1) = length-drop (n + 1) t in
     take-all (length t - (n + 1)) (drop (n + 1) t) (omega arith) ∙ rw (add-one n, c .before .before .find .ensures) (drop-until (a .b) t)
-
-slice-aggregate-result : tie.Need-slice-aggregate-result
-slice-aggregate-result c = search needs
 
 returns-2 : tie.Need-returns-2
 returns-2 c =
@@ -49,12 +31,5 @@ returns-2 c =
 pub after-spec : {M : Type 1} → statement M
 after-spec =
     tie.close
-    (tie.spec
-    find-requires
-    add-start
-    sub-result
-    part-result-start
-    part-result-end
-    returns
-    slice-aggregate-result
-    returns-2)
+    (tie.spec (λ c κs. search needs) (λ c. search needs) (λ c. search needs) (λ c. search needs) (λ c. search needs) returns
+    (λ c. search needs) returns-2)

@@ -7,9 +7,6 @@ use borrow.Author.Needs.{needs}
 use Rattle.digits.proofs.cut.before.Statement.{statement}
 use Rattle.digits.proofs.cut.before.Tie as tie
 
-find-requires : tie.Need-find-requires
-find-requires c κs = search needs
-
 slice-aggregate-result : tie.Need-slice-aggregate-result
 slice-aggregate-result c =
     let a = c .before .before .before .args in
@@ -20,4 +17,4 @@ returns : tie.Need-returns
 returns c = rw (c .before .find .ensures) (take-until (c .before .before .before .args .b) (now (c .before .before .before .args .t)))
 
 pub before-spec : {M : Type 1} → statement M
-before-spec = tie.close (tie.spec find-requires slice-aggregate-result returns)
+before-spec = tie.close (tie.spec (λ c κs. search needs) slice-aggregate-result returns)

@@ -5,11 +5,8 @@ use borrow.Author.Needs.{needs}
 use Rattle.digits.proofs.cut.has.Statement.{statement}
 use Rattle.digits.proofs.cut.has.Tie as tie
 
-find-requires : tie.Need-find-requires
-find-requires c κs = search needs
-
 returns : tie.Need-returns
 returns c = rw (c .find .ensures) (has-until (c .before .before .args .b) (now (c .before .before .args .t)))
 
 pub has-spec : {M : Type 1} → statement M
-has-spec = tie.close (tie.spec find-requires returns)
+has-spec = tie.close (tie.spec (λ c κs. search needs) returns)

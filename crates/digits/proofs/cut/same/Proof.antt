@@ -1,6 +1,7 @@
 -- `cut::same` compares two texts. The loop's invariant: what is left is the same exactly if all is. Assumes nothing.
 use Prim.Native.Nat.{_-_, _≤_}
 use mathlib.Core.Path.{_≡_, refl, sym, _∙_}
+use mathlib.Core.Bool.{true, false}
 use denote.Ref.{now}
 use lib.ListN.{length, drop}
 use Rattle.digits.specs.Cut.{same}
@@ -22,35 +23,18 @@ returns c = sym (same-longer _ _ (c .if1 .taken))
 loop-holds : tie.Need-loop-holds Inv-loop μ-loop
 loop-holds c = (search needs, search needs, refl)
 
-shared-slice-read-alike : tie.Need-shared-slice-read-alike Inv-loop μ-loop
-shared-slice-read-alike c = search needs
-
-shared-slice-read-alike-2 : tie.Need-shared-slice-read-alike-2 Inv-loop μ-loop
-shared-slice-read-alike-2 c = search needs
-
-add-i : tie.Need-add-i Inv-loop μ-loop
-add-i c = search needs
-
-loop-less : tie.Need-loop-less Inv-loop μ-loop
-loop-less c = search needs
-
 loop-again : tie.Need-loop-again Inv-loop μ-loop
 loop-again c =
-    let p4 = c .before .before .before .before in
-    let p6 = p4 .before .before in
-    let l = p4 .loop in
-    let a = p6 .args in
-    let h = same-on (now (a .t)) (now (a .s)) (l .i) (omega arith) (omega arith) in
-    (search needs, search needs, sym (rw (c .if2 .taken) at h) ∙ l .inv .2)
+    let l = c .before .before .before .before .loop in
+    let a = c .before .before .before .before .before .before .args in
+    let h = same-on (now (a .t)) (now (a .s)) (l .i) true (omega arith) (omega arith) (c .if2 .taken) in
+    (search needs, search needs, h ∙ l .inv .2)
 
 returns-2 : tie.Need-returns-2 Inv-loop μ-loop
 returns-2 c =
-    let p4 = c .before .before .before .before in
-    let p6 = p4 .before .before in
-    let l = p4 .loop in
-    let a = p6 .args in
-    let h = same-on (now (a .t)) (now (a .s)) (l .i) (omega arith) (omega arith) in
-    sym (rw (c .if2 .left) at h) ∙ l .inv .2
+    let l = c .before .before .before .before .loop in
+    let a = c .before .before .before .before .before .before .args in
+    same-on (now (a .t)) (now (a .s)) (l .i) false (omega arith) (omega arith) (c .if2 .left) ∙ l .inv .2
 
 returns-3 : tie.Need-returns-3 Inv-loop μ-loop
 returns-3 c =
@@ -61,15 +45,5 @@ returns-3 c =
 pub same-spec : {M : Type 1} → statement M
 same-spec =
     tie.close
-    (tie.spec
-    Inv-loop
-    μ-loop
-    returns
-    loop-holds
-    shared-slice-read-alike
-    shared-slice-read-alike-2
-    add-i
-    loop-less
-    loop-again
-    returns-2
-    returns-3)
+    (tie.spec Inv-loop μ-loop returns loop-holds (λ c. search needs) (λ c. search needs) (λ c. search needs) (λ c. search needs)
+    loop-again returns-2 returns-3)

@@ -6,15 +6,6 @@ use borrow.Author.Needs.{needs}
 use Rattle.digits.proofs.read.number.Statement.{statement}
 use Rattle.digits.proofs.read.number.Tie as tie
 
-slice-aggregate-numbers : tie.Need-slice-aggregate-numbers
-slice-aggregate-numbers c = search needs
-
-numbers-requires : tie.Need-numbers-requires
-numbers-requires c κs = search needs
-
-both-requires : tie.Need-both-requires
-both-requires c κs = search needs
-
 returns : tie.Need-returns
 unfolding numberIn
 returns c = alone _ _ _ _ (c .before .before .before .before .numbers .ensures) (sym (c .before .both .ensures) ∙ c .if1 .taken)
@@ -24,5 +15,4 @@ unfolding numberIn
 returns-2 c = not-alone _ _ _ _ (c .before .before .before .before .numbers .ensures) (sym (c .before .both .ensures) ∙ c .if1 .left)
 
 pub number-spec : {M : Type 1} → statement M
-number-spec =
-    tie.close (tie.spec slice-aggregate-numbers numbers-requires both-requires returns returns-2)
+number-spec = tie.close (tie.spec (λ c. search needs) (λ c κs. search needs) (λ c κs. search needs) returns returns-2)

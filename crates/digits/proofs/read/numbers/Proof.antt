@@ -10,12 +10,6 @@ returns : tie.Need-returns
 unfolding largest
 returns c = rw (numbers-empty (now (c .before .before .before .args .t)) (c .if1 .taken))
 
-items-requires : tie.Need-items-requires
-items-requires c κs = search needs
-
-same-length : tie.Need-same-length
-same-length c = search needs
-
 returns-2 : tie.Need-returns-2
 returns-2 c =
     let p4 = c .before .before .before .before in
@@ -23,4 +17,4 @@ returns-2 c =
     rw (numbers-some (now (p7 .args .t)) (p4 .if1 .left)) (c .before .before .items .ensures)
 
 pub numbers-spec : {M : Type 1} → statement M
-numbers-spec = tie.close (tie.spec returns items-requires same-length returns-2)
+numbers-spec = tie.close (tie.spec returns (λ c κs. search needs) (λ c. search needs) returns-2)

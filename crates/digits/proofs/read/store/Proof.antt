@@ -5,20 +5,10 @@ use borrow.Author.Needs.{needs}
 use Rattle.digits.proofs.read.store.Statement.{statement}
 use Rattle.digits.proofs.read.store.Tie as tie
 
-mul-into : tie.Need-mul-into
-mul-into c = search needs
-
-slice-write-into : tie.Need-slice-write-into
-slice-write-into c = search needs
-
-same-length : tie.Need-same-length
-same-length c = search needs
-
-returns : tie.Need-returns
-returns c = search needs
-
 returns-2 : tie.Need-returns-2
 returns-2 c = sym (set-out _ _ _ (c .if1 .left))
 
 pub store-spec : {M : Type 1} → statement M
-store-spec = tie.close (tie.spec mul-into slice-write-into same-length returns returns-2)
+store-spec =
+    tie.close
+    (tie.spec (λ c. search needs) (λ c. search needs) (λ c. search needs) (λ c. search needs) returns-2)

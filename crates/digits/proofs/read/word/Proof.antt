@@ -3,9 +3,6 @@ use borrow.Author.Needs.{needs}
 use Rattle.digits.proofs.read.word.Statement.{statement}
 use Rattle.digits.proofs.read.word.Tie as tie
 
-cast-result : tie.Need-cast-result
-cast-result c = search needs
-
 returns : tie.Need-returns
 returns c = rw (c .if1 .taken)
 
@@ -13,4 +10,4 @@ returns-2 : tie.Need-returns-2
 returns-2 c = rw (c .if1 .left)
 
 pub word-spec : {M : Type 1} → statement M
-word-spec = tie.close (tie.spec cast-result returns returns-2)
+word-spec = tie.close (tie.spec (λ c. search needs) returns returns-2)

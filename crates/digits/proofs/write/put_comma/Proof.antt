@@ -4,12 +4,6 @@ use borrow.Author.Needs.{needs}
 use Rattle.digits.proofs.write.put_comma.Statement.{statement}
 use Rattle.digits.proofs.write.put_comma.Tie as tie
 
-put-requires : tie.Need-put-requires
-put-requires c κs = search needs
-
-same-length : tie.Need-same-length
-same-length c = search needs
-
 returns : tie.Need-returns
 unfolding onto
 returns c = rw (c .before .before .before .before .if1 .taken) (c .before .before .put .ensures)
@@ -19,4 +13,4 @@ unfolding onto
 returns-2 c = rw (c .if1 .left)
 
 pub put-comma-spec : {M : Type 1} → statement M
-put-comma-spec = tie.close (tie.spec put-requires same-length returns returns-2)
+put-comma-spec = tie.close (tie.spec (λ c κs. search needs) (λ c. search needs) returns returns-2)

@@ -5,30 +5,6 @@ use borrow.Author.Needs.{needs}
 use Rattle.digits.proofs.write.put_number.Statement.{statement}
 use Rattle.digits.proofs.write.put_number.Tie as tie
 
-put-digit-requires : tie.Need-put-digit-requires
-put-digit-requires c κs = search needs
-
-put-digit-requires-2 : tie.Need-put-digit-requires-2
-put-digit-requires-2 c κs = search needs
-
-put-digit-requires-3 : tie.Need-put-digit-requires-3
-put-digit-requires-3 c κs = search needs
-
-put-digit-requires-4 : tie.Need-put-digit-requires-4
-put-digit-requires-4 c κs = search needs
-
-add-put : tie.Need-add-put
-add-put c = search needs
-
-cast-put : tie.Need-cast-put
-cast-put c = search needs
-
-put-requires : tie.Need-put-requires
-put-requires c κs = search needs
-
-same-length : tie.Need-same-length
-same-length c = search needs
-
 returns : tie.Need-returns
 unfolding decimal
 returns c =
@@ -43,13 +19,5 @@ returns c =
 pub put-number-spec : {M : Type 1} → statement M
 put-number-spec =
     tie.close
-    (tie.spec
-    put-digit-requires
-    put-digit-requires-2
-    put-digit-requires-3
-    put-digit-requires-4
-    add-put
-    cast-put
-    put-requires
-    same-length
-    returns)
+    (tie.spec (λ c κs. search needs) (λ c κs. search needs) (λ c κs. search needs) (λ c κs. search needs) (λ c. search needs)
+    (λ c. search needs) (λ c κs. search needs) (λ c. search needs) returns)

@@ -3,7 +3,7 @@ use mathlib.Core.Path.{sym, subst}
 use Rattle.areas.specs.Lent.{lent}
 use Rattle.model.specs.Event.{world}
 use Rattle.model.specs.Calls.{Outcome, quiet}
-use Rattle.firmware.specs.Controller.{ours}
+use Rattle.flat.specs.Controller.{ours}
 use Rattle.firmware.proofs.Short.{Small, reply-small}
 use Rattle.firmware.proofs.Through.{taken, turned}
 use borrow.Author.Needs.{needs}

@@ -8,12 +8,10 @@ unfolding readThrough
 returns c =
     rw (
       c .flat-reading .ensures,
-      c .before .both .ensures,
-      c .before .before .is-bit .ensures,
-      c .before .before .before .is-ours .ensures,
-      c .before .before .before .before .read-group .ensures,
-      c .before .before .before .before .before .controller-of .ensures,
+      c .before .with-flag .ensures,
+      c .before .before .read-group .ensures,
+      c .before .before .before .controller-of .ensures,
     )
 
 pub on-group-spec : {M : Type 1} → statement M
-on-group-spec = tie.close (tie.spec (λ c κs. tt) (λ c κs. tt) (λ c κs. tt) (λ c κs. tt) (λ c κs. tt) (λ c κs. tt) returns)
+on-group-spec = tie.close (tie.spec (λ c κs. tt) (λ c κs. tt) (λ c κs. tt) (λ c κs. tt) returns)

@@ -8,14 +8,12 @@ returns c =
       c .answer .ensures,
       c .before .bit-of .ensures,
       c .before .before .line .ensures,
-      c .before .before .before .both .ensures,
-      c .before .before .before .before .is-bit .ensures,
-      c .before .before .before .before .before .is-ours .ensures,
-      c .before .before .before .before .before .before .group-at .ensures,
-      c .before .before .before .before .before .before .before .controller-of .ensures,
+      c .before .before .before .with-flag .ensures,
+      c .before .before .before .before .group-at .ensures,
+      c .before .before .before .before .before .controller-of .ensures,
     )
 
 pub tolvendrum-line-spec : {M : Type 1} → statement M
 tolvendrum-line-spec =
     tie.close
-    (tie.spec (λ c κs. tt) (λ c κs. tt) (λ c κs. tt) (λ c κs. tt) (λ c κs. tt) (λ c κs. tt) (λ c κs. tt) (λ c κs. tt) returns)
+    (tie.spec (λ c κs. tt) (λ c κs. tt) (λ c κs. tt) (λ c κs. tt) (λ c κs. tt) (λ c κs. tt) returns)

@@ -2,7 +2,7 @@
 use mathlib.Core.Path.{_∙_}
 use Rattle.areas.specs.Lent.{lent}
 use Rattle.model.specs.Calls.{openPort}
-use Rattle.firmware.specs.Flags.{isBit, isSet}
+use Rattle.flat.specs.Flags.{isBit, isSet}
 use Rattle.firmware.proofs.Through.{opened, not-opened}
 use borrow.Author.Needs.{needs}
 use Rattle.firmware.proofs.port_calls.tolvendrum_open.Statement.{statement}

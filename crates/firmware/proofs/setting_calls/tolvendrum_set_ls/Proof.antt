@@ -9,16 +9,14 @@ unfolding setThrough told
 returns c =
     rw (
       c .flat-told .ensures,
-      c .before .both .ensures,
-      c .before .before .is-bit .ensures,
-      c .before .before .before .is-ours .ensures,
-      c .before .before .before .before .made .ensures,
-      c .before .before .before .before .before .set-ls .ensures,
-      c .before .before .before .before .before .before .is-set .ensures,
-      c .before .before .before .before .before .before .before .controller-of .ensures,
+      c .before .with-flag .ensures,
+      c .before .before .made .ensures,
+      c .before .before .before .set-ls .ensures,
+      c .before .before .before .before .is-set .ensures,
+      c .before .before .before .before .before .controller-of .ensures,
     )
 
 pub tolvendrum-set-ls-spec : {M : Type 1} → statement M
 tolvendrum-set-ls-spec =
     tie.close
-    (tie.spec (λ c κs. tt) (λ c κs. tt) (λ c κs. tt) (λ c κs. tt) (λ c κs. tt) (λ c κs. tt) (λ c κs. tt) (λ c κs. tt) returns)
+    (tie.spec (λ c κs. tt) (λ c κs. tt) (λ c κs. tt) (λ c κs. tt) (λ c κs. tt) (λ c κs. tt) returns)

@@ -5,25 +5,10 @@ use borrow.Author.Needs.{needs}
 use Rattle.session.proofs.run.finish.Statement.{statement}
 use Rattle.session.proofs.run.finish.Tie as tie
 
-is-whole-requires : tie.Need-is-whole-requires
-is-whole-requires c κs = search needs
-
-put-report-requires : tie.Need-put-report-requires
-put-report-requires c κs = search needs
-
-same-length : tie.Need-same-length
-same-length c = search needs
-
 returns : tie.Need-returns
 unfolding endText
 returns c = rw (sym (c .before .before .before .before .before .is-whole .ensures) ∙ c .before .before .before .before .if1 .taken)
     (c .before .before .put-report .ensures)
-
-put-refused-requires : tie.Need-put-refused-requires
-put-refused-requires c κs = search needs
-
-same-length-2 : tie.Need-same-length-2
-same-length-2 c = search needs
 
 returns-2 : tie.Need-returns-2
 unfolding endText
@@ -33,11 +18,5 @@ returns-2 c = rw (sym (c .before .before .before .before .before .is-whole .ensu
 pub finish-spec : {M : Type 1} → statement M
 finish-spec =
     tie.close
-    (tie.spec
-    is-whole-requires
-    put-report-requires
-    same-length
-    returns
-    put-refused-requires
-    same-length-2
+    (tie.spec (λ c κs. search needs) (λ c κs. search needs) (λ c. search needs) returns (λ c κs. search needs) (λ c. search needs)
     returns-2)

@@ -10,18 +10,6 @@ use borrow.Author.Needs.{needs}
 use Rattle.session.proofs.run.line_at.Statement.{statement}
 use Rattle.session.proofs.run.line_at.Tie as tie
 
-sub-before : tie.Need-sub-before
-sub-before c = search needs
-
-part-before-start : tie.Need-part-before-start
-part-before-start c = search needs
-
-part-before-end : tie.Need-part-before-end
-part-before-end c = search needs
-
-before-requires : tie.Need-before-requires
-before-requires c κs = search needs
-
 returns : tie.Need-returns
 returns c =
     let a = c .before .before .before .args in
@@ -30,5 +18,4 @@ returns c =
     c .before2 .ensures ∙ ap (before 10) (take-all (length t - a .i) (drop (a .i) t) (omega arith))
 
 pub line-at-spec : {M : Type 1} → statement M
-line-at-spec =
-    tie.close (tie.spec sub-before part-before-start part-before-end before-requires returns)
+line-at-spec = tie.close (tie.spec (λ c. search needs) (λ c. search needs) (λ c. search needs) (λ c κs. search needs) returns)

@@ -12,24 +12,6 @@ use borrow.Author.Needs.{needs}
 use Rattle.session.proofs.run.run.Statement.{statement}
 use Rattle.session.proofs.run.run.Tie as tie
 
-slice-aggregate-lines : tie.Need-slice-aggregate-lines
-slice-aggregate-lines c = search needs
-
-slice-aggregate-lines-2 : tie.Need-slice-aggregate-lines-2
-slice-aggregate-lines-2 c = search needs
-
-slice-aggregate-lines-3 : tie.Need-slice-aggregate-lines-3
-slice-aggregate-lines-3 c = search needs
-
-slice-aggregate-lines-4 : tie.Need-slice-aggregate-lines-4
-slice-aggregate-lines-4 c = search needs
-
-lines-requires : tie.Need-lines-requires
-lines-requires c κs = search needs
-
-same-length : tie.Need-same-length
-same-length c = search needs
-
 returns : tie.Need-returns
 unfolding printed start clearedAreas
 returns c =
@@ -42,11 +24,5 @@ returns c =
 pub run-spec : {M : Type 1} → statement M
 run-spec =
     tie.close
-    (tie.spec
-    slice-aggregate-lines
-    slice-aggregate-lines-2
-    slice-aggregate-lines-3
-    slice-aggregate-lines-4
-    lines-requires
-    same-length
+    (tie.spec (λ c. search needs) (λ c. search needs) (λ c. search needs) (λ c. search needs) (λ c κs. search needs) (λ c. search needs)
     returns)

@@ -8,30 +8,6 @@ use borrow.Author.Needs.{needs}
 use Rattle.text.proofs.line.bytes_of.Statement.{statement}
 use Rattle.text.proofs.line.bytes_of.Tie as tie
 
-array-read-byte : tie.Need-array-read-byte
-array-read-byte c = search needs
-
-byte-requires : tie.Need-byte-requires
-byte-requires c κs = search needs
-
-array-read-byte-2 : tie.Need-array-read-byte-2
-array-read-byte-2 c = search needs
-
-byte-requires-2 : tie.Need-byte-requires-2
-byte-requires-2 c κs = search needs
-
-array-read-byte-3 : tie.Need-array-read-byte-3
-array-read-byte-3 c = search needs
-
-byte-requires-3 : tie.Need-byte-requires-3
-byte-requires-3 c κs = search needs
-
-array-read-byte-4 : tie.Need-array-read-byte-4
-array-read-byte-4 c = search needs
-
-byte-requires-4 : tie.Need-byte-requires-4
-byte-requires-4 c κs = search needs
-
 returns : tie.Need-returns
 returns c =
     let words = c .before .before .before .before .args .t1 in
@@ -42,13 +18,5 @@ returns c =
 pub bytes-of-spec : {M : Type 1} → statement M
 bytes-of-spec =
     tie.close
-    (tie.spec
-    array-read-byte
-    byte-requires
-    array-read-byte-2
-    byte-requires-2
-    array-read-byte-3
-    byte-requires-3
-    array-read-byte-4
-    byte-requires-4
-    returns)
+    (tie.spec (λ c. search needs) (λ c κs. search needs) (λ c. search needs) (λ c κs. search needs) (λ c. search needs)
+    (λ c κs. search needs) (λ c. search needs) (λ c κs. search needs) returns)

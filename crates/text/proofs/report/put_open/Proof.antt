@@ -5,18 +5,9 @@ use borrow.Author.Needs.{needs}
 use Rattle.text.proofs.report.put_open.Statement.{statement}
 use Rattle.text.proofs.report.put_open.Tie as tie
 
-get-requires : tie.Need-get-requires
-get-requires c κs = search needs
-
 returns : tie.Need-returns
 unfolding openText onto
 returns c = rw (← c .before .get .ensures, c .if1 .taken)
-
-put-port-requires : tie.Need-put-port-requires
-put-port-requires c κs = search needs
-
-same-length : tie.Need-same-length
-same-length c = search needs
 
 returns-2 : tie.Need-returns-2
 unfolding openText
@@ -24,4 +15,4 @@ returns-2 c = rw (← c .before .before .before .before .before .get .ensures, c
     (c .before .before .put-port .ensures)
 
 pub put-open-spec : {M : Type 1} → statement M
-put-open-spec = tie.close (tie.spec get-requires returns put-port-requires same-length returns-2)
+put-open-spec = tie.close (tie.spec (λ c κs. search needs) returns (λ c κs. search needs) (λ c. search needs) returns-2)

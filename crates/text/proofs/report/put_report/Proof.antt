@@ -23,15 +23,6 @@ loop-holds : tie.Need-loop-holds Inv-loop μ-loop
 unfolding reportBelow onto
 loop-holds c = (search needs, refl, refl)
 
-put-open-requires : tie.Need-put-open-requires Inv-loop μ-loop
-put-open-requires c κs = search needs
-
-add-a : tie.Need-add-a Inv-loop μ-loop
-add-a c = search needs
-
-loop-less : tie.Need-loop-less Inv-loop μ-loop
-loop-less c = search needs
-
 loop-again : tie.Need-loop-again Inv-loop μ-loop
 loop-again c =
     let l = c .before .before .before .before .before .loop in
@@ -50,13 +41,4 @@ returns c =
 pub put-report-spec : {M : Type 1} → statement M
 put-report-spec =
     tie.close
-    (tie.spec
-    Inv-loop
-    μ-loop
-    loop-holds
-    put-open-requires
-    add-a
-    loop-less
-    loop-again
-    same-length
-    returns)
+    (tie.spec Inv-loop μ-loop loop-holds (λ c κs. search needs) (λ c. search needs) (λ c. search needs) loop-again same-length returns)

@@ -8,21 +8,6 @@ use borrow.Author.Needs.{needs}
 use Rattle.text.proofs.say.put_reply.Statement.{statement}
 use Rattle.text.proofs.say.put_reply.Tie as tie
 
-enum-told : tie.Need-enum-told
-enum-told c = search needs
-
-enum-told-2 : tie.Need-enum-told-2
-enum-told-2 c = search needs
-
-enum-told-3 : tie.Need-enum-told-3
-enum-told-3 c = search needs
-
-enum-told-4 : tie.Need-enum-told-4
-enum-told-4 c = search needs
-
-put-frame-requires : tie.Need-put-frame-requires
-put-frame-requires c κs = search needs
-
 returns : tie.Need-returns
 unfolding onto replyText
 returns c = rw (c .enum-told .given .1)
@@ -34,9 +19,6 @@ returns-2 c = rw (c .enum-told2 .given .1)
 returns-3 : tie.Need-returns-3
 unfolding onto replyText
 returns-3 c = rw (c .enum-told3 .given .1)
-
-same-length : tie.Need-same-length
-same-length c = search needs
 
 returns-4 : tie.Need-returns-4
 unfolding replyText
@@ -50,14 +32,5 @@ returns-4 c =
 pub put-reply-spec : {M : Type 1} → statement M
 put-reply-spec =
     tie.close
-    (tie.spec
-    enum-told
-    enum-told-2
-    enum-told-3
-    enum-told-4
-    put-frame-requires
-    returns
-    returns-2
-    returns-3
-    same-length
-    returns-4)
+    (tie.spec (λ c. search needs) (λ c. search needs) (λ c. search needs) (λ c. search needs) (λ c κs. search needs) returns returns-2
+    returns-3 (λ c. search needs) returns-4)

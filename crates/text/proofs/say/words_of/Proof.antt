@@ -6,30 +6,6 @@ use borrow.Author.Needs.{needs}
 use Rattle.text.proofs.say.words_of.Statement.{statement}
 use Rattle.text.proofs.say.words_of.Tie as tie
 
-array-read-wide : tie.Need-array-read-wide
-array-read-wide c = search needs
-
-wide-requires : tie.Need-wide-requires
-wide-requires c κs = search needs
-
-array-read-wide-2 : tie.Need-array-read-wide-2
-array-read-wide-2 c = search needs
-
-wide-requires-2 : tie.Need-wide-requires-2
-wide-requires-2 c κs = search needs
-
-array-read-wide-3 : tie.Need-array-read-wide-3
-array-read-wide-3 c = search needs
-
-wide-requires-3 : tie.Need-wide-requires-3
-wide-requires-3 c κs = search needs
-
-array-read-wide-4 : tie.Need-array-read-wide-4
-array-read-wide-4 c = search needs
-
-wide-requires-4 : tie.Need-wide-requires-4
-wide-requires-4 c κs = search needs
-
 returns : tie.Need-returns
 returns c =
     let bytes = c .before .before .before .before .args .t1 in
@@ -40,13 +16,5 @@ returns c =
 pub words-of-spec : {M : Type 1} → statement M
 words-of-spec =
     tie.close
-    (tie.spec
-    array-read-wide
-    wide-requires
-    array-read-wide-2
-    wide-requires-2
-    array-read-wide-3
-    wide-requires-3
-    array-read-wide-4
-    wide-requires-4
-    returns)
+    (tie.spec (λ c. search needs) (λ c κs. search needs) (λ c. search needs) (λ c κs. search needs) (λ c. search needs)
+    (λ c κs. search needs) (λ c. search needs) (λ c κs. search needs) returns)

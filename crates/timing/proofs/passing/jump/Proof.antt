@@ -1,4 +1,4 @@
--- `passing::jump` meets its contract: the definition is opened, and its parts are what the callees ensure. Assumes nothing.
+-- `passing::jump` meets its contract: by its test the definition is opened, and its parts are what the callees ensure. Assumes nothing.
 use Rattle.timing.specs.Jump.{jumped}
 use borrow.Author.Needs.{needs}
 use Rattle.timing.proofs.passing.jump.Statement.{statement}
@@ -6,7 +6,16 @@ use Rattle.timing.proofs.passing.jump.Tie as tie
 
 returns : tie.Need-returns
 unfolding jumped
-returns c = rw (c .later .ensures, c .before .least .ensures, c .before .before .free .ensures)
+returns c = rw (c .rolled .ensures, ← (c .before .before .settled .ensures), c .before .if1 .taken)
+
+returns-2 : tie.Need-returns-2
+unfolding jumped
+returns-2 c =
+    let b = c .before .before .before in
+    rw (c .later .ensures, c .before .least .ensures, c .before .before .free .ensures, ← (b .before .settled .ensures), b .if1 .left)
 
 pub jump-spec : {M : Type 1} → statement M
-jump-spec = tie.close (tie.spec (λ c κs. tt) (λ c κs. tt) (λ c. search needs) (λ c. search needs) (λ c κs. search needs) returns)
+jump-spec =
+    tie.close
+    (tie.spec (λ c κs. tt) (λ c κs. tt) returns (λ c κs. tt) (λ c κs. tt) (λ c. search needs) (λ c. search needs) (λ c κs. search needs)
+    returns-2)

@@ -1,0 +1,4 @@
+pub mod Inverse
+pub mod Inside
+pub mod Right
+pub mod Kept

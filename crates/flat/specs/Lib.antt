@@ -1,0 +1,4 @@
+pub mod Flags
+pub mod Controller
+pub mod Hearing
+pub mod Kept

@@ -1,0 +1,3 @@
+pub mod Hosting
+pub mod Keys
+pub mod OneStep
