@@ -77,8 +77,8 @@ pub valid-open : (a p code : ℕ) (sink : Bool) (i : ℕ) (s : World) → refusa
 unfolding needed
 valid-open a p code sink i s e =
     let t = accepted (openPort a p code sink i) s e in
-    let r = open-range a p code i (t .1 .0) in
-    let free = neither _ _ (t .1 .1 .1 .1 .0) in
+    let r = open-range a p code i (t .range) in
+    let free = neither _ _ (t .free) in
     opening (r .address) (r .some-port) (r .port) (r .code) (r .interrupt) (eqb-true _ 0 (not-false _ (free .0)))
     (eqb-true _ 0 (not-false _ (free .1)))
 
@@ -96,12 +96,12 @@ module _ (m : Areas) (a : ℕ) (above : ltb 255 (entry m a) ≡ false) (absent :
 
 pub found-close : (a : ℕ) (s : World) → refusal (closePort a) s ≡ 0 → view (s .areas) a ≡ some (viewOf (s .areas) (entry (s .areas) a))
 unfolding needed
-found-close a s e = let t = accepted (closePort a) s e in finds (s .areas) a (t .1 .1 .0) (t .1 .1 .1 .0) (t .1 .1 .1 .1 .1 .0)
+found-close a s e = let t = accepted (closePort a) s e in finds (s .areas) a (t .entry) (t .port) (t .formed)
 
 pub found-write : (a : ℕ) (ws : List ℕ) (s : World) → refusal (writePort a ws) s ≡ 0
     → view (s .areas) a ≡ some (viewOf (s .areas) (entry (s .areas) a))
 unfolding needed
-found-write a ws s e = let t = accepted (writePort a ws) s e in finds (s .areas) a (t .1 .1 .0) (t .1 .1 .1 .0) (t .1 .1 .1 .1 .1 .0)
+found-write a ws s e = let t = accepted (writePort a ws) s e in finds (s .areas) a (t .entry) (t .port) (t .formed)
 
 pub valid-close : (a : ℕ) (s : World) → refusal (closePort a) s ≡ 0 → Valid (s .areas) (closed a (entry (s .areas) a))
 unfolding viewOf
@@ -110,13 +110,13 @@ valid-close a s e = closing (record { seen = viewOf (s .areas) (entry (s .areas)
 -- a write goes to a source, and has its size
 pub write-source : (a : ℕ) (ws : List ℕ) (s : World) → refusal (writePort a ws) s ≡ 0 → viewOf (s .areas) (entry (s .areas) a) .sink ≡ false
 unfolding viewOf
-write-source a ws s e = accepted (writePort a ws) s e .1 .1 .1 .1 .1 .1 .0
+write-source a ws s e = accepted (writePort a ws) s e .side
 
 pub valid-write : (a : ℕ) (ws : List ℕ) (s : World) → refusal (writePort a ws) s ≡ 0 → Valid (s .areas) (fill (entry (s .areas) a) ws)
 unfolding viewOf
 valid-write a ws s e =
     filling (record { seen = viewOf (s .areas) (entry (s .areas) a); there = found-write a ws s e; port = refl; word = refl })
-    (eqb-true _ _ (not-false _ (accepted (writePort a ws) s e .1 .1 .1 .1 .1 .1 .1 .0)))
+    (eqb-true _ _ (not-false _ (accepted (writePort a ws) s e .size)))
 
 -- ---- a bus event
 

@@ -7,20 +7,20 @@ use mathlib.Core.Option.{Option, none, some}
 use native.Mathlib.Omega.{arith}
 use lib.Dec.{eqb, ltb}
 use borrow.Author.Tests.{eqb-true, eqb-false, eq-eqb, not-false, le-ltb}
-use Rattle.model.specs.Layout.{Areas, areasFit, entry, portAt, flagsOf}
+use Rattle.model.specs.Layout.{Areas, entry, portAt, flagsOf}
 use Rattle.model.specs.Ports.{addressOf, wellFormed, View, viewOf, view}
 use Rattle.model.specs.Shape.{Shape, Leads}
 use Rattle.model.specs.Event.{World}
 use Rattle.model.specs.Calls.{Call, hear, quiet, openPort, closePort, writePort, readPort, setting, needed, entryAbove, illFormed}
-use Rattle.model.specs.Calls.{tests, refusal}
+use Rattle.model.specs.Calls.{badArea, outOfRange, badEntry, noPort, isTaken, badWords, wrongSide, wrongSize, refusal}
 use Rattle.model.proofs.Formed.{formed-used}
-use Rattle.model.proofs.Refused.{Silent, accepted, accepts}
+use Rattle.model.proofs.Refused.{Passed, accepted, accepts}
 use Rattle.model.proofs.Accepted.{neither, open-range, open-at}
 use Rattle.model.proofs.Same.{Alike, same-entry, Same}
 
 -- ---- no damaged entry or port words are met in a shape
 
-pub no-above : (m : Areas) → Shape m → (o : Option ℕ) → entryAbove m o ≡ false
+no-above : (m : Areas) → Shape m → (o : Option ℕ) → entryAbove m o ≡ false
 no-above m s none = refl
 no-above m s (some a) = go (s .entries a)
   where
@@ -28,7 +28,7 @@ no-above m s (some a) = go (s .entries a)
     go (inl e) = rw e
     go (inr l) = le-ltb _ _ (l .small)
 
-pub no-ill : (m : Areas) → Shape m → (o : Option ℕ) → illFormed m o ≡ false
+no-ill : (m : Areas) → Shape m → (o : Option ℕ) → illFormed m o ≡ false
 no-ill m s none = refl
 no-ill m s (some a) = go (s .entries a)
   where
@@ -39,6 +39,29 @@ no-ill m s (some a) = go (s .entries a)
         and-none : (b : Bool) → (b && false) ≡ false
         and-none true = refl
         and-none false = refl
+
+-- so no call finds an area of another length, a damaged entry or damaged port words there
+module _ (s : World) (shape : Shape (s .areas)) where
+  pub fits-in : (c : Call) → badArea c s ≡ false
+  fits-in (hear a b) = rw (shape .fits)
+  fits-in (quiet n) = rw (shape .fits)
+  fits-in (openPort a p code sink i) = rw (shape .fits)
+  fits-in (closePort a) = rw (shape .fits)
+  fits-in (writePort a ws) = rw (shape .fits)
+  fits-in (readPort a) = rw (shape .fits)
+  fits-in (setting t) = refl
+
+  pub entry-in : (c : Call) → badEntry c s ≡ false
+  entry-in c = no-above (s .areas) shape (needed c s)
+
+  pub formed-in : (c : Call) → badWords c s ≡ false
+  formed-in (hear a b) = no-ill (s .areas) shape (needed (hear a b) s)
+  formed-in (quiet n) = no-ill (s .areas) shape (needed (quiet n) s)
+  formed-in (openPort a p code sink i) = refl
+  formed-in (closePort a) = no-ill (s .areas) shape (some a)
+  formed-in (writePort a ws) = no-ill (s .areas) shape (some a)
+  formed-in (readPort a) = no-ill (s .areas) shape (some a)
+  formed-in (setting t) = refl
 
 -- ---- what one of two alike worlds accepts the other accepts
 
@@ -83,9 +106,6 @@ module _ (s u : World) (k : Same s u) where
   entry-same : (a : ℕ) → eqb (entry M a) 0 ≡ eqb (entry N a) 0
   entry-same a = ap (λ (n : ℕ). eqb n 0) (same-entry M N (k .areas) a)
 
-  fits : not (areasFit N) ≡ false
-  fits = rw (k .areas .shape′ .fits)
-
   shape : Shape N
   shape = k .areas .shape′
 
@@ -113,24 +133,57 @@ module _ (s u : World) (k : Same s u) where
     unfolding viewOf
     word-same = ap (λ (v : View). v .word) seen-same
 
-  silent-same : (c : Call) → Silent (tests c s) → Silent (tests c u)
-  unfolding needed
-  silent-same (hear a b) t =
-      (fits, (t .1 .0, (no-above N shape (needed (hear a b) u), (refl, (refl, (no-ill N shape (needed (hear a b) u), (refl, (refl, tt))))))))
-  silent-same (quiet n) t =
-      (fits, (t .1 .0, (no-above N shape (needed (quiet n) u), (refl, (refl, (no-ill N shape (needed (quiet n) u), (refl, (refl, tt))))))))
-  silent-same (openPort a p code sink i) t =
-      let r = open-range a p code i (t .1 .0) in
-      (fits, (t .1 .0, (no-above N shape (some a), (refl, (free-same a p (r .some-port) (r .port) (t .1 .1 .1 .1 .0), (refl, (refl, (refl, tt))))))))
-  silent-same (closePort a) t =
-      (fits, (t .1 .0, (no-above N shape (some a), (port a (t .1 .1 .1 .0), (refl, (no-ill N shape (some a), (refl, (refl, tt))))))))
-  silent-same (writePort a ws) t =
-      let there = t .1 .1 .1 .0 in
-      (fits, (t .1 .0, (no-above N shape (some a), (port a there, (refl, (no-ill N shape (some a), (sym (side-same a there) ∙ t .1 .1 .1 .1 .1 .1 .0, (rw (word-same a there) at (t .1 .1 .1 .1 .1 .1 .1 .0), tt))))))))
-  silent-same (readPort a) t =
-      (fits, (t .1 .0, (no-above N shape (some a), (port a (t .1 .1 .1 .0), (refl, (no-ill N shape (some a), (refl, (refl, tt))))))))
-  silent-same (setting t) h = (refl, (h .1 .0, (refl, (refl, (refl, (refl, (refl, (refl, tt))))))))
+  -- each test that asks for a port, in one world and in the other
+
+  port-same : (c : Call) → noPort c s ≡ false → noPort c u ≡ false
+  port-same (hear a b) e = refl
+  port-same (quiet n) e = refl
+  port-same (openPort a p code sink i) e = refl
+  port-same (closePort a) e = port a e
+  port-same (writePort a ws) e = port a e
+  port-same (readPort a) e = port a e
+  port-same (setting t) e = refl
+
+  taken-same : (c : Call) → outOfRange c ≡ false → isTaken c s ≡ false → isTaken c u ≡ false
+  taken-same (hear a b) r e = refl
+  taken-same (quiet n) r e = refl
+  taken-same (openPort a p code sink i) r e = let o = open-range a p code i r in free-same a p (o .some-port) (o .port) e
+  taken-same (closePort a) r e = refl
+  taken-same (writePort a ws) r e = refl
+  taken-same (readPort a) r e = refl
+  taken-same (setting t) r e = refl
+
+  wrong-side-same : (c : Call) → noPort c s ≡ false → wrongSide c s ≡ false → wrongSide c u ≡ false
+  wrong-side-same (hear a b) there e = refl
+  wrong-side-same (quiet n) there e = refl
+  wrong-side-same (openPort a p code sink i) there e = refl
+  wrong-side-same (closePort a) there e = refl
+  wrong-side-same (writePort a ws) there e = sym (side-same a there) ∙ e
+  wrong-side-same (readPort a) there e = refl
+  wrong-side-same (setting t) there e = refl
+
+  wrong-size-same : (c : Call) → noPort c s ≡ false → wrongSize c s ≡ false → wrongSize c u ≡ false
+  wrong-size-same (hear a b) there e = refl
+  wrong-size-same (quiet n) there e = refl
+  wrong-size-same (openPort a p code sink i) there e = refl
+  wrong-size-same (closePort a) there e = refl
+  wrong-size-same (writePort a ws) there e = rw (word-same a there) at e
+  wrong-size-same (readPort a) there e = refl
+  wrong-size-same (setting t) there e = refl
+
+  passed-same : (c : Call) → Passed c s → Passed c u
+  passed-same c p =
+      record {
+        fits = fits-in u shape c;
+        range = p .range;
+        entry = entry-in u shape c;
+        port = port-same c (p .port);
+        free = taken-same c (p .range) (p .free);
+        formed = formed-in u shape c;
+        side = wrong-side-same c (p .port) (p .side);
+        size = wrong-size-same c (p .port) (p .size);
+      }
 
   -- what one of two alike worlds accepts the other accepts
   pub accepts-same : (c : Call) → refusal c s ≡ 0 → refusal c u ≡ 0
-  accepts-same c e = accepts c u (silent-same c (accepted c s e))
+  accepts-same c e = accepts c u (passed-same c (accepted c s e))

@@ -43,7 +43,7 @@ use Rattle.model.proofs.Taken.{valid-heard}
 use Rattle.model.proofs.Holds.{later-valid}
 use Rattle.model.proofs.Invariant.{one-of, ToldBy, chosen-heard}
 use Rattle.model.proofs.Told.{told}
-use Rattle.model.proofs.Alike.{no-above, no-ill, accepts-same}
+use Rattle.model.proofs.Alike.{fits-in, entry-in, formed-in, accepts-same}
 use Rattle.model.proofs.Same.{Alike, same-answer, same-exchange, Same, either-line, same-step}
 
 -- ---- effects that change status bits alone
@@ -219,22 +219,18 @@ unfolding needed
 master-accepted u s k x e =
     let t = accepted (hear x x) s e in
     let f = k .areas .shape′ in
-    accepts (hear x x) u (
-      rw (f .fits),
-      (
-        t .1 .0,
-        (
-          no-above (u .areas) f (needed (hear x x) u),
-          (
-            refl,
-            (
-              refl,
-              (no-ill (u .areas) f (needed (hear x x) u), (refl, (refl, tt))),
-            ),
-          ),
-        ),
-      ),
-    )
+    let call = hear x x in
+    accepts call u
+    (record {
+      fits = fits-in u f call;
+      range = t .range;
+      entry = entry-in u f call;
+      port = refl;
+      free = refl;
+      formed = formed-in u f call;
+      side = refl;
+      size = refl;
+    })
 
 later-same : (later p q : List Call) → AllAlike later → Accepted (later ++ p) → Accepted q → Same (after p) (after q)
     → Accepted (later ++ q) × Same (after (later ++ p)) (after (later ++ q))

@@ -33,7 +33,7 @@ use Rattle.model.specs.Damage.{SoundMaster}
 use Rattle.model.proofs.Taken.{takenIf, Took, taken-exactly, took-heard, taken-raises}
 use Rattle.model.proofs.Invariant.{one-of}
 use Rattle.model.proofs.Told.{told}
-use Rattle.model.proofs.Alike.{no-above, no-ill}
+use Rattle.model.proofs.Alike.{entry-in, formed-in}
 use Rattle.model.proofs.Damage.{heard-master}
 use Rattle.model.proofs.Reading.{shownWords, asks-never, fetches}
 use Rattle.model.proofs.Replies.{answer-sound, data-told, status-told}
@@ -92,20 +92,11 @@ module _ (past : List Call) (run : Accepted past) where
 
   -- ---- no call of a run meets a damaged entry or damaged port words
 
-  ill : (c : Call) → badWords c now ≡ false
-  ill (hear a b) = no-ill (now .areas) shaped (needed (hear a b) now)
-  ill (quiet n) = no-ill (now .areas) shaped (needed (quiet n) now)
-  ill (openPort a p code sink i) = refl
-  ill (closePort a) = no-ill (now .areas) shaped (some a)
-  ill (writePort a ws) = no-ill (now .areas) shaped (some a)
-  ill (readPort a) = no-ill (now .areas) shaped (some a)
-  ill (setting t) = refl
-
   pub never-damaged : (c : Call) → refusal c now ≡ 6 → ⊥
   unfolding refusal
   never-damaged c e =
       no-six (badArea c now) (outOfRange c) (noPort c now) (isTaken c now) (wrongSide c now) (wrongSize c now)
-      (rw (no-above (now .areas) shaped (needed c now), ill c) at e)
+      (rw (entry-in now shaped c, formed-in now shaped c) at e)
     where
       no-six : (a b d f g h : Bool)
           → firstOf (test a 1 ∷ test b 2 ∷ test false 6 ∷ test d 3 ∷ test f 4 ∷ test false 6 ∷ test g 5 ∷ test h 2 ∷ []) ≡ 6 → ⊥

@@ -17,7 +17,7 @@ use Rattle.model.specs.Shape.{Shape}
 use Rattle.model.specs.Calls.{readPort, needed, among, portRefusal, asked, partFor, fetched}
 use Rattle.model.proofs.Refused.{accepts}
 use Rattle.model.proofs.Views.{view-at}
-use Rattle.model.proofs.Alike.{no-above, no-ill}
+use Rattle.model.proofs.Alike.{fits-in, entry-in, formed-in}
 
 -- the words that are shown, and no words where none are
 abbrev pub shownWords : Option (List ℕ) → List ℕ
@@ -50,8 +50,18 @@ module _ (m : Areas) (shape : Shape m) (a : ℕ) (v : View) (seen : view m a ≡
       let at = view-at m a v seen in
       let range : ltb 4095 a ≡ false = le-ltb 4095 a (omega (arith, at .address)) in
       let there : eqb (entry m a) 0 ≡ false = ne-eqb (entry m a) 0 (λ z. omega (arith, at .positive, at .port)) in
-      accepts (readPort a) (among m)
-      (rw (shape .fits), (range, (no-above m shape (some a), (there, (refl, (no-ill m shape (some a), (refl, (refl, tt))))))))
+      let call = readPort a in
+      accepts call (among m)
+      (record {
+        fits = fits-in (among m) shape call;
+        range = range;
+        entry = entry-in (among m) shape call;
+        port = there;
+        free = refl;
+        formed = formed-in (among m) shape call;
+        side = refl;
+        size = refl;
+      })
 
   -- the port is seen whole
   whole : v .shows ≡ cond (flagsOf (portAt m (entry m a) .flags) .ever) (some (validWords m (entry m a))) none

@@ -9,7 +9,8 @@ use mathlib.Core.Option.{none}
 use native.Mathlib.Omega.{arith}
 use borrow.Author.Tests.{ne-eqb}
 use Rattle.model.specs.Event.{World, spoken}
-use Rattle.model.specs.Calls.{Call, Test, tests, firstOf, refusal, outcome}
+use Rattle.model.specs.Calls.{Call, badArea, outOfRange, badEntry, noPort, isTaken, badWords, wrongSide, wrongSize}
+use Rattle.model.specs.Calls.{Test, tests, firstOf, refusal, outcome}
 
 -- no test of the list holds
 abbrev pub Silent : List Test → Type 0
@@ -60,14 +61,37 @@ zero-silent ts n e = go (tells ts)
 numbered : (c : Call) (s : World) → Numbered (tests c s)
 numbered c s = omega arith
 
--- A call is accepted exactly when no test holds.
-pub accepted : (c : Call) (s : World) → refusal c s ≡ 0 → Silent (tests c s)
-unfolding refusal
-accepted c s e = zero-silent (tests c s) (numbered c s) e
+-- every test by its name, and none holds
+pub record Passed (c : Call) (s : World) : Type 0 where
+  pub fits : badArea c s ≡ false
+  pub range : outOfRange c ≡ false
+  pub entry : badEntry c s ≡ false
+  pub port : noPort c s ≡ false
+  pub free : isTaken c s ≡ false
+  pub formed : badWords c s ≡ false
+  pub side : wrongSide c s ≡ false
+  pub size : wrongSize c s ≡ false
 
-pub accepts : (c : Call) (s : World) → Silent (tests c s) → refusal c s ≡ 0
+-- A call is accepted exactly when no test holds.
+pub accepted : (c : Call) (s : World) → refusal c s ≡ 0 → Passed c s
 unfolding refusal
-accepts c s h = silent-zero (tests c s) h
+accepted c s e =
+    let t = zero-silent (tests c s) (numbered c s) e in
+    record {
+      fits = t .0;
+      range = t .1 .0;
+      entry = t .1 .1 .0;
+      port = t .1 .1 .1 .0;
+      free = t .1 .1 .1 .1 .0;
+      formed = t .1 .1 .1 .1 .1 .0;
+      side = t .1 .1 .1 .1 .1 .1 .0;
+      size = t .1 .1 .1 .1 .1 .1 .1 .0;
+    }
+
+pub accepts : (c : Call) (s : World) → Passed c s → refusal c s ≡ 0
+unfolding refusal
+accepts c s p =
+    silent-zero (tests c s) (p .fits, (p .range, (p .entry, (p .port, (p .free, (p .formed, (p .side, (p .size, tt))))))))
 
 -- A call is refused with n exactly when the first test that holds, in document 01's order, has the number n.
 pub refused : (c : Call) (s : World) (n : ℕ) → First (tests c s) n → refusal c s ≡ n

@@ -36,7 +36,7 @@ step-told past (closePort b) ty r h = close-told past b r h
 step-told past (writePort b ws) ty r h = write-told past b ws r h
 step-told past (readPort b) ty r h = read-told past b h
 step-told past (setting t) ty r h =
-    set-told past (after past .controller) (after past .areas) h t (accepted (setting t) (after past) r .1 .0)
+    set-told past (after past .controller) (after past .areas) h t (accepted (setting t) (after past) r .range)
 
 -- After every past of accepted calls, controller and areas are as the past tells.
 pub told : (past : List Call) → Accepted past → Told past (after past .controller) (after past .areas)

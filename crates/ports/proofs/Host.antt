@@ -26,7 +26,7 @@ pub open-accepted : (m : Areas) (a p code i : ℕ) {n : ℕ} → n ≡ openRefus
 unfolding portRefusal
 open-accepted m a p code i {n} e z =
     let none = open-number m a p code true i ∙ sym e ∙ eqb-true n 0 z in
-    open-range a p code i (accepted (openPort a p code true i) (among m) none .1 .0)
+    open-range a p code i (accepted (openPort a p code true i) (among m) none .range)
 
 -- the test of the port words is asked only where there is an entry
 excused : (none ill : Bool) (n : ℕ) → cond none 3 (cond (not none && ill) 6 n) ≡ cond none 3 (cond ill 6 n)

@@ -26,8 +26,8 @@ returns-2 c =
     let a = words .before .before .before .before .args in
     rw (c .unmarked2 .ensures)
     (read-malformed (a .one) (a .b) (now (a .v)) _ _ _ _ _ _ (words .before .before .before2 .ensures)
-    (checks .before .before .after .ensures) (words .numbers .ensures) (checks .numbers2 .ensures) (a .kind) _ _ (tested .is-frame .ensures) (tested .before .has .ensures)
-    (c .before .if1 .left))
+    (checks .before .before .after .ensures) (words .numbers .ensures) (checks .numbers2 .ensures) (a .kind) _ _ (tested .is-frame .ensures)
+    (tested .before .has .ensures) (c .before .if1 .left))
 
 pub frame-spec : {M : Type 1} → statement M
 frame-spec =
