@@ -161,7 +161,7 @@ class Program:
             elif key == b"slave":
                 call = (self.slave, numbers(first, 65535), numbers(second, 255))
             else:
-                call = (self.write, number(first), numbers(second, 65535))
+                call = (self.write, below(number(first), 65535), numbers(second, 65535))
         refuse(self.group, 7)
         self.begun = True
         call[0](*call[1:])
@@ -338,7 +338,10 @@ def refusals():
     yield "checks_9", slave([0], [255] * 9)
     yield "write_no_port", "write=2;0\n"
     yield "write_address_4096", SOURCE + "write=4096;0,1\n"
+    yield "write_address_65535", SOURCE + "write=65535;0,1\n"
+    yield "write_address_65536", SOURCE + "write=65536;0,1\n"
     yield "write_address_65538", SOURCE + "write=65538;0,1\n"
+    yield "write_address_huge", SOURCE + "write=%s;0,1\n" % ("9" * 40)
     yield "write_to_sink", SINK + "write=1;5\n"
     yield "write_side_before_size", SINK + "write=1;5,6\n"
     yield "write_too_few", SOURCE + "write=2;5\n"

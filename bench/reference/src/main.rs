@@ -87,8 +87,9 @@ impl Program {
             }
             "write" => {
                 let (address, written) = value.split_once(';').ok_or(TEXT)?;
-                let (address, written) = (argument(address)?, words(written)?);
-                accepted(write(&mut self.areas, address, &written))?;
+                let (address, written) = (words(address)?, words(written)?);
+                refuse_unless(address.len() == 1, TEXT)?;
+                accepted(write(&mut self.areas, address[0], &written))?;
                 Ok(String::new())
             }
             _ => Err(TEXT),

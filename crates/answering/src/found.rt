@@ -1,54 +1,89 @@
-// Our ports for a master word: the number of the port, 0 for none.
+// Our port for a master word: what is sought, once for each event and each reply time that is reached, and then the port by its number,
+// 0 for none.
 ghost use mathlib.Core.Path.{_≡_};
-ghost use Rattle.model.specs.Event.{portFor, sinkFor};
-ghost use Rattle.events.specs.Raised.{interruptOr0};
-ghost use Rattle.areas.specs.Lent.{lent};
-ghost use Rattle.answering.specs.Found.{numberOf, withWord};
+ghost use Rattle.model.specs.Calls.{wordOfHeard};
+ghost use Rattle.timing.specs.Quiet.{dueWord};
+ghost use Rattle.answering.specs.Found.{withWord, soughtFor, soughtBy, portOf, sinkOf, interruptAt};
 use areas::layout;
+use areas::pick::pick_sought;
 use areas::port;
-use choice::both;
 use choice::pick;
 use constants::CODE_UNIT;
 use constants::LAST_CODE;
+use model::Heard;
 use model::Sought;
+use timing::Due;
 
-// The port that stands at an address, if it has exactly the master word w.
-fn with_word(s: Sought, ports: &[u16], w: u16) -> u16
+// What is sought, where a port counts only if it has exactly the master word w.
+fn with_word(ports: &[u16], w: u16, s: Sought) -> Sought
     ensures { λ r. ⌜ r ≡ withWord (now (ports .entry)) w s ⌝ }
 {
     match s {
-        Sought::Nothing => 0,
-        Sought::Damaged => 0,
+        Sought::Nothing => Sought::Nothing,
+        Sought::Damaged => Sought::Damaged,
         Sought::Port(p) => {
             let v = layout::get_port(ports, p);
-            pick(v.master == w, p, 0)
+            pick_sought(v.master == w, Sought::Port(p), Sought::Nothing)
         }
     }
 }
 
-// The port that is open for a master word; only F-codes 0 to 4 have ports.
-pub fn port_for(index: &[u16], ports: &[u16], page0: &[u16], page1: &[u16], w: u16) -> u16
-    ensures { λ r. ⌜ r ≡ numberOf (portFor (lent (index .entry) (ports .entry) (page0 .entry) (page1 .entry)) w) ⌝ }
+// What stands open for a master word; only F-codes 0 to 4 have ports.
+fn sought_for(index: &[u16], ports: &[u16], w: u16) -> Sought
+    ensures { λ r. ⌜ r ≡ soughtFor (now (index .entry)) (now (ports .entry)) w ⌝ }
 {
-    let p = with_word(port::seek(index, ports, w % CODE_UNIT), ports, w);
-    pick(w / CODE_UNIT <= LAST_CODE, p, 0)
+    let s = with_word(ports, w, port::seek(index, ports, w % CODE_UNIT));
+    pick_sought(w / CODE_UNIT <= LAST_CODE, s, Sought::Nothing)
 }
 
-// The sink that is open for a master word.
-pub fn sink_for(index: &[u16], ports: &[u16], page0: &[u16], page1: &[u16], w: u16) -> u16
-    ensures { λ r. ⌜ r ≡ numberOf (sinkFor (lent (index .entry) (ports .entry) (page0 .entry) (page1 .entry)) w) ⌝ }
+// The same of the master word that an event needs the port of, if it does.
+pub fn sought_heard(index: &[u16], ports: &[u16], h: Heard) -> Sought
+    ensures { λ r. ⌜ r ≡ soughtBy (now (index .entry)) (now (ports .entry)) (wordOfHeard h) ⌝ }
 {
-    let p = port_for(index, ports, page0, page1, w);
+    match h {
+        Heard::Nothing => Sought::Nothing,
+        Heard::Unsound => Sought::Nothing,
+        Heard::Master(w) => sought_for(index, ports, w),
+        Heard::Reply(w, _) => sought_for(index, ports, w),
+        Heard::Stray => Sought::Nothing,
+    }
+}
+
+// And of the master word whose reply time is reached.
+pub fn sought_due(index: &[u16], ports: &[u16], d: Due) -> Sought
+    ensures { λ r. ⌜ r ≡ soughtBy (now (index .entry)) (now (ports .entry)) (dueWord d) ⌝ }
+{
+    match d {
+        Due::No => Sought::Nothing,
+        Due::Word(w) => sought_for(index, ports, w),
+    }
+}
+
+// The number of the port that was found, 0 for none.
+pub fn port_of(s: Sought) -> u16
+    ensures { λ r. ⌜ r ≡ portOf s ⌝ }
+{
+    match s {
+        Sought::Nothing => 0,
+        Sought::Damaged => 0,
+        Sought::Port(p) => p,
+    }
+}
+
+// The same, if the port is a sink.
+pub fn sink_of(ports: &[u16], s: Sought) -> u16
+    ensures { λ r. ⌜ r ≡ sinkOf (now (ports .entry)) s ⌝ }
+{
+    let p = port_of(s);
     let v = layout::get_port(ports, p);
     let f = layout::flags_of(v.flags);
     pick(f.sink, p, 0)
 }
 
-// The data transfer interrupt of the sink that is open for a master word, 0 for none.
-pub fn interrupt_for(index: &[u16], ports: &[u16], page0: &[u16], page1: &[u16], w: u16) -> u16
-    ensures { λ r. ⌜ r ≡ interruptOr0 (sinkFor (lent (index .entry) (ports .entry) (page0 .entry) (page1 .entry)) w) ⌝ }
+// The data transfer interrupt of port p, 0 for none.
+pub fn interrupt_at(ports: &[u16], p: u16) -> u16
+    ensures { λ r. ⌜ r ≡ interruptAt (now (ports .entry)) p ⌝ }
 {
-    let p = sink_for(index, ports, page0, page1, w);
     let v = layout::get_port(ports, p);
     pick(p != 0, v.interrupt, 0)
 }

@@ -1,11 +1,14 @@
 -- Document 01, "Memory lent to the calls": the four areas as a call is lent them. Assumes nothing.
-use Prim.Native.Nat.{ℕ}
-use mathlib.Core.Bool.{Bool, true, false}
+use Prim.Native.Nat.{ℕ, _<_, _+_, _*_}
+use mathlib.Core.Path.{_≡_}
+use mathlib.Core.Bool.{Bool, true, false, cond}
 use mathlib.Core.List.{List}
-use denote.Ref.{RefT, now}
+use lib.ListN.{length}
+use denote.Ref.{RefT, now, ptr}
 use Rattle.model.specs.declared.Answer.{Answer}
 use Rattle.model.specs.declared.Answer.the-variants.{Never, Good, Held, Refused}
-use Rattle.model.specs.Layout.{Areas, areas}
+use Rattle.model.specs.declared.Flags.{Flags}
+use Rattle.model.specs.Layout.{Areas, areas, pagePlace}
 
 -- index table, port words, page 0 and page 1
 abbrev pub lent : RefT (List ℕ) → RefT (List ℕ) → RefT (List ℕ) → RefT (List ℕ) → Areas
@@ -17,3 +20,12 @@ shown Never = false
 shown Good = true
 shown Held = true
 shown (Refused n) = false
+
+-- of the two pages that are lent, the valid one: VP is its number
+abbrev pub validLent : RefT (List ℕ) → RefT (List ℕ) → Flags → RefT (List ℕ)
+validLent z o f = cond (f .vp) o z
+
+-- what is handed back lies in this page, in the place of port p: in the same block of memory, and there so many words of two bytes from the
+-- page's first
+abbrev pub Lies : RefT (List ℕ) → RefT (List ℕ) → ℕ → Type 0
+Lies r page p = (ptr r .0 ≡ ptr page .0) × (pagePlace p < length (now page) → ptr r .1 ≡ ptr page .1 + pagePlace p * 2)

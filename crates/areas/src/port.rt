@@ -1,9 +1,9 @@
 // What the index table and the port words say of a port (document 01, "Memory lent to the calls" and "Host calls on ports").
 ghost use mathlib.Core.Path.{_≡_};
 ghost use mathlib.Core.List.{[]};
-ghost use Rattle.model.specs.Layout.{areas, partOf};
+ghost use Rattle.model.specs.Layout.{areas, partOf, wordsAt, flagsOf};
 ghost use Rattle.model.specs.Ports.{oneSide, wellFormed, seek, sizeOf, validPage, validWords, stateOf};
-ghost use Rattle.areas.specs.Lent.{shown};
+ghost use Rattle.areas.specs.Lent.{shown, validLent, Lies};
 use crate::layout;
 use crate::pick::pick_answer;
 use crate::pick::pick_sought;
@@ -83,6 +83,7 @@ pub fn shows(x: Answer) -> bool
 // The first n of port p's words in a page, as far as the page goes.
 fn part<'a>(page: &'a [u16], p: u16, n: usize) -> &'a [u16]
     ensures { λ r. ⌜ now r ≡ partOf (now (page .entry)) p n ⌝ }
+    ensures place { λ r. ⌜ Lies r (page .entry) p ⌝ }
 {
     let at = constants::PAGE_WORDS * p as usize;
     if page.len() <= at {
@@ -98,6 +99,7 @@ fn part<'a>(page: &'a [u16], p: u16, n: usize) -> &'a [u16]
 // VP is the number of the valid page.
 fn valid_part<'a>(page0: &'a [u16], page1: &'a [u16], f: Flags, p: u16, n: usize) -> &'a [u16]
     ensures { λ r. ⌜ now r ≡ partOf (validPage (areas [] [] (now (page0 .entry)) (now (page1 .entry))) f) p n ⌝ }
+    ensures place { λ r. ⌜ Lies r (validLent (page0 .entry) (page1 .entry) f) p ⌝ }
 {
     let one = f.vp;
     if one {
@@ -110,6 +112,7 @@ fn valid_part<'a>(page0: &'a [u16], page1: &'a [u16], f: Flags, p: u16, n: usize
 // Port p's own part of whichever page is valid, sized by its F-code. The index table is not asked.
 pub fn valid_words<'a>(ports: &[u16], page0: &'a [u16], page1: &'a [u16], p: u16) -> &'a [u16]
     ensures { λ r. ⌜ now r ≡ validWords (areas [] (now (ports .entry)) (now (page0 .entry)) (now (page1 .entry))) p ⌝ }
+    ensures place { λ r. ⌜ Lies r (validLent (page0 .entry) (page1 .entry) (flagsOf (wordsAt (now (ports .entry)) p .flags))) p ⌝ }
 {
     let w = layout::get_port(ports, p);
     let n = port_size(w.master / constants::CODE_UNIT);

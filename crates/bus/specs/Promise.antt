@@ -1,33 +1,22 @@
 -- How the answer of a call and the areas it leaves make up an outcome of the crate `model`. Assumes nothing.
 use Prim.Native.Nat.{ℕ}
-use mathlib.Core.Bool.{not, _||_}
-use lib.Dec.{ltb}
 use Rattle.frames.specs.declared.Hearing.{Hearing}
-use Rattle.frames.specs.Hearing.{inRange}
 use Rattle.model.specs.declared.Controller.{Controller}
 use Rattle.model.specs.declared.Exchange.{Exchange}
 use Rattle.model.specs.declared.Heard.{Heard}
-use Rattle.model.specs.declared.Times.{Times}
-use Rattle.model.specs.Layout.{Areas, areasFit}
+use Rattle.model.specs.declared.Sought.{Sought}
+use Rattle.model.specs.Layout.{Areas}
 use Rattle.model.specs.Ports.{apply}
-use Rattle.model.specs.Event.{World, world, timesAfter, linesAfter, countsAfter, raiseAll, raised1, controllerAfter}
-use Rattle.model.specs.Event.{effectOf, answerOf, spoken}
-use Rattle.model.specs.Calls.{wordOfHeard, Outcome}
+use Rattle.model.specs.Event.{World, world, raiseAll}
+use Rattle.model.proofs.Tables.{timesAfter, linesAfter, countsAfter, raised1}
+use Rattle.model.specs.Calls.{Outcome}
 use Rattle.events.specs.Raised.{bits0}
-use Rattle.timing.specs.Quiet.{dueIn}
-use Rattle.answering.specs.Need.{damagedBy, eventRefusal}
+use Rattle.answering.specs.Found.{portOf, sinkOf, interruptAt, standingAt, metAs, effectBy}
 use Rattle.bus.specs.declared.Answered.{Answered}
 
 -- the outcome that an answer tells, with the areas afterwards
-abbrev pub told : Areas → Answered → Outcome
-told m r = record { refusal = r .refusal; reply = r .reply; world = world (r .controller) m }
-
--- the refusals of a bus event and of quiet time; proofs/Outcomes.antt proves them to be those of the model's `refusal`
-abbrev pub hearRefusal : Areas → Hearing → Hearing → Heard → ℕ
-hearRefusal m a b h = eventRefusal (areasFit m) (not (inRange a) || not (inRange b)) (damagedBy m (wordOfHeard h))
-
-abbrev pub quietRefusal : Areas → Exchange → Times → ℕ → ℕ
-quietRefusal m x t n = eventRefusal (areasFit m) (ltb 65535 n) (damagedBy m (dueIn n x t))
+abbrev pub asOutcome : Areas → Answered → Outcome
+asOutcome m r = record { refusal = r .refusal; reply = r .reply; world = world (r .controller) m }
 
 -- the controller after an event, with the exchange and the interrupt that the areas tell
 abbrev pub afterWith : Controller → Heard → Hearing → Hearing → Exchange → ℕ → Controller
@@ -42,11 +31,17 @@ afterWith c h t o x i =
       device = c .device;
     }
 
--- the outcome of an accepted event, by what the trusted line heard
-abbrev pub heardOutcome : World → Heard → Hearing → Hearing → Outcome
-heardOutcome s h t o =
+-- the outcome of an accepted event, with what was sought for it; proofs/Outcomes.antt proves it to be the model's
+abbrev pub acceptedWith : World → Sought → Heard → Hearing → Hearing → Outcome
+acceptedWith w s h t o =
+    let c = w .controller in
+    let m = w .areas in
+    let sink = sinkOf (m .ports) s in
+    let met = metAs (c .device) (standingAt m (portOf s)) (c .exchange) h in
     record {
       refusal = 0;
-      reply = spoken (answerOf (s .controller .device) (s .areas) h);
-      world = world (controllerAfter (s .controller) (s .areas) h t o) (apply (effectOf (s .areas) h t) (s .areas));
+      reply = met .reply;
+      world =
+          world (afterWith c h t o (met .exchange) (interruptAt (m .ports) sink))
+          (apply (effectBy (standingAt m sink) h t) m);
     }

@@ -1,15 +1,16 @@
 // The two calls.
 ghost use mathlib.Core.Path.{_≡_};
+ghost use mathlib.Core.List.{[]};
+ghost use Rattle.model.specs.Layout.{areas};
 ghost use Rattle.model.specs.Event.{world};
 ghost use Rattle.model.specs.Quiet.{tick, ticks};
 ghost use Rattle.model.specs.Calls.{hear, quiet, outcome};
-ghost use Rattle.events.specs.Raised.{interruptHeard};
 ghost use Rattle.areas.specs.Lent.{lent};
-ghost use Rattle.bus.specs.Promise.{told, afterWith, heardOutcome, hearRefusal, quietRefusal};
+ghost use Rattle.bus.specs.Promise.{asOutcome, afterWith, acceptedWith};
 use crate::Answered;
-use answering::found::interrupt_for;
+use answering::found;
 use answering::frame::silent;
-use answering::need;
+use answering::need::event_refusal;
 use answering::reply::meet_heard;
 use answering::take;
 use areas::layout;
@@ -22,22 +23,9 @@ use frames::Hearing;
 use model::Controller;
 use model::Exchange;
 use model::Heard;
-use model::Times;
+use model::Sought;
 use timing::passing;
 use timing::quiet;
-
-// The interrupt of the sink that a judged slave frame answers for, 0 for none.
-fn interrupt_heard(index: &[u16], ports: &[u16], page0: &[u16], page1: &[u16], h: Heard) -> u16
-    ensures { λ r. ⌜ r ≡ interruptHeard (lent (index .entry) (ports .entry) (page0 .entry) (page1 .entry)) h ⌝ }
-{
-    match h {
-        Heard::Nothing => 0,
-        Heard::Unsound => 0,
-        Heard::Master(_) => 0,
-        Heard::Reply(w, _) => interrupt_for(index, ports, page0, page1, w),
-        Heard::Stray => 0,
-    }
-}
 
 // The controller after an event: each part by what was heard.
 fn after(c: Controller, h: Heard, t: Hearing, o: Hearing, x: Exchange, interrupt: u16) -> Controller
@@ -61,27 +49,28 @@ fn after(c: Controller, h: Heard, t: Hearing, o: Hearing, x: Exchange, interrupt
     }
 }
 
-// An event that is accepted: what was heard is met and taken.
+// An event that is accepted, with what was sought for it: what was heard is met and taken.
 fn accept(
-    index: &[u16],
     ports: &mut [u16],
     page0: &mut [u16],
     page1: &mut [u16],
     c: Controller,
+    s: Sought,
     h: Heard,
     t: Hearing,
     o: Hearing,
 ) -> Answered
     ensures { λ r. ⌜
-        told (lent (index .entry) (ports .exit) (page0 .exit) (page1 .exit)) r ≡
-        heardOutcome (world c (lent (index .entry) (ports .entry) (page0 .entry) (page1 .entry))) h t o
+        asOutcome (areas [] (now (ports .exit)) (now (page0 .exit)) (now (page1 .exit))) r ≡
+        acceptedWith (world c (areas [] (now (ports .entry)) (now (page0 .entry)) (now (page1 .entry)))) s h t o
         ⌝ }
 {
     let device = c.device;
     let x = c.exchange;
-    let met = meet_heard(index, ports, page0, page1, device, x, h);
-    let interrupt = interrupt_heard(index, ports, page0, page1, h);
-    take::take(index, ports, page0, page1, h, t);
+    let met = meet_heard(ports, page0, page1, device, found::port_of(s), x, h);
+    let sink = found::sink_of(ports, s);
+    let interrupt = found::interrupt_at(ports, sink);
+    take::take(ports, page0, page1, sink, h, t);
     let next = met.exchange;
     let reply = met.reply;
     Answered {
@@ -89,22 +78,6 @@ fn accept(
         controller: after(c, h, t, o, next, interrupt),
         reply,
     }
-}
-
-fn hear_refusal(
-    index: &[u16],
-    ports: &[u16],
-    page0: &[u16],
-    page1: &[u16],
-    a: Hearing,
-    b: Hearing,
-    h: Heard,
-) -> u16
-    ensures { λ r. ⌜ r ≡ hearRefusal (lent (index .entry) (ports .entry) (page0 .entry) (page1 .entry)) a b h ⌝ }
-{
-    let out = either(!frames::in_range(a), !frames::in_range(b));
-    let fit = layout::fits(index, ports, page0, page1);
-    need::event_refusal(fit, out, need::damaged_heard(index, ports, h))
 }
 
 // A bus event: what line A and what line B heard. The trusted line is the one at the start of the event.
@@ -118,7 +91,7 @@ pub fn hear(
     b: Hearing,
 ) -> Answered
     ensures { λ r. ⌜
-        told (lent (index .entry) (ports .exit) (page0 .exit) (page1 .exit)) r ≡
+        asOutcome (lent (index .entry) (ports .exit) (page0 .exit) (page1 .exit)) r ≡
         outcome (hear a b) (world c (lent (index .entry) (ports .entry) (page0 .entry) (page1 .entry)))
         ⌝ }
 {
@@ -126,11 +99,14 @@ pub fn hear(
     let x = c.exchange;
     let t = lines::trusted(l, a, b);
     let h = heard::heard(x, t);
-    let no = hear_refusal(index, ports, page0, page1, a, b, h);
+    let s = found::sought_heard(index, ports, h);
+    let fit = layout::fits(index, ports, page0, page1);
+    let out = either(!frames::in_range(a), !frames::in_range(b));
+    let no = event_refusal(fit, out, s);
     let ok = no == 0;
     if ok {
         let o = lines::observed(l, a, b);
-        return accept(index, ports, page0, page1, c, h, t, o);
+        return accept(ports, page0, page1, c, s, h, t, o);
     }
     Answered {
         refusal: no,
@@ -148,7 +124,8 @@ fn tick(index: &[u16], ports: &mut [u16], page0: &[u16], page1: &[u16], c: Contr
 {
     let x = c.exchange;
     let t = c.times;
-    take::miss(index, ports, page0, page1, quiet::due(x, t));
+    let s = found::sought_due(index, ports, quiet::due(x, t));
+    take::miss(ports, found::sink_of(ports, s));
     quiet::tick_controller(c)
 }
 
@@ -182,22 +159,6 @@ fn pass(
     d
 }
 
-fn quiet_refusal(
-    index: &[u16],
-    ports: &[u16],
-    page0: &[u16],
-    page1: &[u16],
-    x: Exchange,
-    t: Times,
-    n: u32,
-) -> u16
-    ensures { λ r. ⌜ r ≡ quietRefusal (lent (index .entry) (ports .entry) (page0 .entry) (page1 .entry)) x t n ⌝ }
-{
-    let fit = layout::fits(index, ports, page0, page1);
-    let d = quiet::due_within(n, x, t);
-    need::event_refusal(fit, LAST_QUIET < n, need::damaged_due(index, ports, d))
-}
-
 // n quiet bit times.
 pub fn quiet(
     index: &[u16],
@@ -208,13 +169,16 @@ pub fn quiet(
     n: u32,
 ) -> Answered
     ensures { λ r. ⌜
-        told (lent (index .entry) (ports .exit) (page0 .entry) (page1 .entry)) r ≡
+        asOutcome (lent (index .entry) (ports .exit) (page0 .entry) (page1 .entry)) r ≡
         outcome (quiet n) (world c (lent (index .entry) (ports .entry) (page0 .entry) (page1 .entry)))
         ⌝ }
 {
     let x = c.exchange;
     let t = c.times;
-    let no = quiet_refusal(index, ports, page0, page1, x, t, n);
+    let d = quiet::due_within(n, x, t);
+    let s = found::sought_due(index, ports, d);
+    let fit = layout::fits(index, ports, page0, page1);
+    let no = event_refusal(fit, LAST_QUIET < n, s);
     let ok = no == 0;
     if ok {
         return Answered {

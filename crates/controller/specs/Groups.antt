@@ -3,7 +3,7 @@ use Prim.Native.Nat.{ℕ}
 use Rattle.interrupts.specs.declared.Group.{Group}
 use Rattle.interrupts.specs.declared.Read.{Read}
 use Rattle.interrupts.specs.Group.{statusRead, vectorRead}
-use Rattle.interrupts.specs.Shape.{Call, writeStatus, writePending, writeMask, readStatus, readVector, writeVector, after}
+use Rattle.interrupts.specs.Calls.{Call, writeStatus, writePending, writeMask, readStatus, readVector, writeVector, groupAfter}
 use Rattle.model.specs.declared.Controller.{Controller}
 use Rattle.model.specs.Host.{tell, group0, group1}
 use Rattle.controller.specs.declared.GroupCall.{GroupCall}
@@ -29,7 +29,7 @@ valueOf (WritePending v) g = 0
 valueOf (WriteMask v) g = 0
 
 unfoldable pub groupRead : GroupCall → Group → Read
-groupRead k g = record { value = valueOf k g; group = after (callOf k) g }
+groupRead k g = record { value = valueOf k g; group = groupAfter (callOf k) g }
 
 -- what was read of a group of the controller, and the controller afterwards
 unfoldable pub reading0 : GroupCall → Controller → Reading

@@ -5,9 +5,9 @@ use Rattle.model.specs.declared.Controller.{Controller}
 use Rattle.model.specs.Host.{Setting, settingOut, tell}
 use Rattle.controller.specs.declared.Told.{Told}
 
-abbrev pub answer : ℕ → Controller → Told
-answer n c = record { refusal = n; controller = c }
+abbrev pub toldWith : ℕ → Controller → Told
+toldWith n c = record { refusal = n; controller = c }
 
 -- out of range: 2, and the controller as it was; else 0, and the setting is made
-unfoldable pub told : Setting → Controller → Told
-told s c = cond (settingOut s) (answer 2 c) (answer 0 (tell s c))
+unfoldable pub toldFor : Setting → Controller → Told
+toldFor s c = cond (settingOut s) (toldWith 2 c) (toldWith 0 (tell s c))

@@ -16,11 +16,11 @@ use model::Times;
 ghost use mathlib.Core.Path.{_≡_};
 ghost use mathlib.Core.Bool.{cond};
 ghost use Rattle.model.specs.Host.{freshController, address, status, replyTime, slm, ls, clearEC, isReplyTime, tell};
-ghost use Rattle.controller.specs.Settings.{answer, told};
+ghost use Rattle.controller.specs.Settings.{toldWith, toldFor};
 
 // The controller d after a setting, or, where its argument is out of range, the refusal and the controller c before it.
 fn tell_if(out: bool, c: Controller, d: Controller) -> Told
-    ensures { λ r. ⌜ r ≡ cond out (answer 2 c) (answer 0 d) ⌝ }
+    ensures { λ r. ⌜ r ≡ cond out (toldWith 2 c) (toldWith 0 d) ⌝ }
 {
     if out {
         Told {
@@ -37,7 +37,7 @@ fn tell_if(out: bool, c: Controller, d: Controller) -> Told
 
 // The device address, 0 to 4095.
 pub fn set_address(c: Controller, a: u16) -> Told
-    ensures { λ r. ⌜ r ≡ told (address a) c ⌝ }
+    ensures { λ r. ⌜ r ≡ toldFor (address a) c ⌝ }
 {
     let mut e = c.device;
     e.address = a;
@@ -67,7 +67,7 @@ pub fn is_reply_time(t: u16) -> bool
 
 // The reply time that the next sound master frame adopts.
 pub fn set_reply_time(c: Controller, t: u16) -> Told
-    ensures { λ r. ⌜ r ≡ told (replyTime t) c ⌝ }
+    ensures { λ r. ⌜ r ≡ toldFor (replyTime t) c ⌝ }
 {
     let mut e = c.times;
     e.chosen = t;

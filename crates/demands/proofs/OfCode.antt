@@ -1,64 +1,29 @@
--- THE THREE DEMANDS, OF THE CODE. Every sequence of the public calls from a fresh controller and cleared areas is a run of the crate
--- `model` (`ran`), whose theorems then speak of what the calls answered and left. Assumes nothing.
-use Prim.Native.Nat.{ℕ, _%_, min}
+-- DEMANDS 2 AND 3, OF THE CODE. Every sequence of the public calls from a fresh controller and cleared areas is a run of the crate `model`
+-- (`ran`), whose theorems then speak of what the calls answered and left. Assumes nothing.
+use Prim.Native.Nat.{ℕ, _%_, _<_, min}
 use mathlib.Core.Path.{_≡_, refl, sym, _∙_, ap}
-use mathlib.Core.Logic.{_↔_}
-use mathlib.Core.Bool.{Bool, true, false, cond}
-use mathlib.Core.List.{List, [], _∷_, _++_}
+use mathlib.Core.Logic.{_↔_, _⊎_}
+use mathlib.Core.Bool.{Bool, true, false}
+use mathlib.Core.List.{List, [], _∷_}
 use mathlib.Core.Option.{Option, none, some}
-use lib.Dec.{eqb}
 use lib.ListN.{length}
-use borrow.Author.Tests.{ne-eqb}
 use Rattle.frames.specs.declared.Hearing.{Hearing}
-use Rattle.frames.specs.declared.Judgement.the-variants.{Sound}
 use Rattle.frames.specs.Hearing.{wordsOf}
-use Rattle.frames.specs.Judge.{judgedSlave}
+use Rattle.interrupts.specs.Names.{SFC}
 use Rattle.model.specs.declared.Answer.{Answer}
-use Rattle.model.specs.declared.Answer.the-variants.{Never}
-use Rattle.model.specs.Ports.{codeOf, addressOf, hasPorts, View, view}
-use Rattle.model.specs.Event.{World, pollsUs, silent, spoken}
-use Rattle.model.specs.Calls.{Call, hear, refusal, step, answer, Outcome, outcome, tests, asked, fetched, start}
-use Rattle.model.specs.Past.{after, Typed, Accepted, onTrusted, firstWord, answers, Opening, openingOf, answersSince, writesSince, lastOf}
-use Rattle.model.specs.Past.{fillings, sourceTold, statusTold, lastStatus, framesJudged, framesUnsound}
-use Rattle.model.specs.Damage.{Damage, AllAlike, SoundMaster}
-use Rattle.model.proofs.Refused.{First, refused as refused-with}
-use Rattle.model.proofs.Reading.{shownWords}
-use Rattle.model.proofs.Taken.{takenIf}
+use Rattle.model.specs.declared.Answer.the-variants.{Never, Refused}
+use Rattle.model.specs.Layout.{Areas}
+use Rattle.model.specs.Ports.{codeOf, addressOf, hasPorts, Standing, standing, view}
+use Rattle.model.specs.Event.{World, interruptOf, raiseAll, spoken}
+use Rattle.model.specs.Calls.{Call, hear, step, answer, asked, fetched, start}
+use Rattle.model.specs.Past.{after, Typed, Accepted, onTrusted, firstWord, lastSettings, answers, Opening, openingOf, answersSince}
+use Rattle.model.specs.Past.{writesSince, lastOf, sourceTold, statusTold, replyIn, fillings, viewWith, toldView, shownWords, takenIf}
+use Rattle.model.specs.Past.{framesJudged, framesUnsound}
+use Rattle.model.specs.Damage.{SoundMaster}
 use Rattle.model.proofs.Demands as demand
-use Rattle.model.proofs.Damage.{Unseen, damage-unseen}
+use Rattle.model.proofs.Empty.{empty-exactly as empty-of}
 use Rattle.demands.specs.Made.{Made, Ran, begun, accepted, refused}
-use Rattle.demands.proofs.OneAnswer.{outcomeWith, made-outcome}
-
--- ---- one call
-
-module _ {s t : World} {c : Call} {n : ℕ} {r : Hearing} (made : Made s c n r t) where
-  -- Demand 1: a call answers a number exactly when the first of document 01's tests that holds has it, and 0 when none holds.
-  pub number : n ≡ refusal c s
-  unfolding outcome
-  number = sym (ap (λ (x : Outcome). x .refusal) (made-outcome made))
-
-  pub refused-exactly : (k : ℕ) → First (tests c s) k → n ≡ k
-  refused-exactly k f = number ∙ refused-with c s k f
-
-  left : outcome c s .world ≡ t
-  left = ap (λ (x : Outcome). x .world) (made-outcome made)
-
-  replied : outcome c s .reply ≡ r
-  replied = ap (λ (x : Outcome). x .reply) (made-outcome made)
-
-  -- A refused call changes nothing, and replies nothing.
-  pub refused-unchanged : (n ≡ 0 → ⊥) → (t ≡ s) × (r ≡ silent)
-  unfolding outcome
-  refused-unchanged z =
-      let k = ne-eqb (refusal c s) 0 (λ e. z (number ∙ e)) in
-      (sym (rw k at left), sym (rw k at replied))
-
-  -- an accepted call is a step of the run, with its reply
-  accepted-step : n ≡ 0 → (step c s ≡ t) × (spoken (answer c s) ≡ r)
-  unfolding outcome
-  accepted-step z =
-      let k : refusal c s ≡ 0 = sym number ∙ z in
-      (rw k at left, rw k at replied)
+use Rattle.demands.proofs.OfCall.{number-exactly, refused-unchanged, accepted-step}
 
 -- ---- a sequence of calls is a run
 
@@ -75,7 +40,7 @@ next : {past : List Call} {s t : World} {c : Call} {r : Hearing} → Run past s 
 unfolding after
 next {c = c} run typed made =
     record {
-      all = (typed, rw (run .same) (sym (number made)), run .all);
+      all = (typed, rw (run .same) (sym (number-exactly made)), run .all);
       same = ap (step c) (run .same) ∙ accepted-step made refl .0;
     }
 
@@ -93,71 +58,82 @@ module _ {past : List Call} {s : World} (calls : Ran past s) where
   abbrev same : after past ≡ s
   same = ran calls .same
 
+  -- ---- demand 1: in a sequence of our calls no call meets damage
+
+  pub never-six : {t : World} {c : Call} {r : Hearing} → Made s c 6 r t → ⊥
+  never-six {c = c} made = demand.never-damaged past all c (rw same (sym (number-exactly made)))
+
   -- ---- demand 2: a slave frame is taken exactly when it is sound and answers a master frame of one of our open sinks
 
   module _ {t : World} {a b r : Hearing} (made : Made s (hear a b) 0 r t) where
+    -- what the trusted line heard
+    abbrev heardNow : Hearing
+    heardNow = onTrusted past a b
+
     -- After the event each address shows the words of the frame where that is so, with one fill more, and else what it showed.
-    pub taken-exactly : Typed (hear a b) → (e : ℕ)
-        → view (t .areas) e ≡ takenIf (answers past a b) (wordsOf (onTrusted past a b)) (view (s .areas) e)
+    pub taken-exactly : Typed (hear a b) → (e : ℕ) → view (t .areas) e ≡ takenIf (answers past a b) (wordsOf heardNow) (view (s .areas) e)
     taken-exactly typed e = rw (← (accepted-step made refl .0), ← same) (demand.frame-seen past all a b typed e)
+
+    -- The port that takes the frame raises its interrupt.
+    pub taken-raises : (e : ℕ) (v : Standing) → standing (s .areas) e ≡ some v → v .sink ≡ true → answers past a b (v .word) ≡ true
+        → t .controller .group0 ≡ raiseAll (SFC ∷ interruptOf (some v)) (s .controller .group0)
+    taken-raises e v there sink sound =
+        rw (← (accepted-step made refl .0), ← same) (demand.frame-raises past all a b e v (rw same there) sink sound)
 
     spoke : spoken (answer (hear a b) (after past)) ≡ r
     spoke = rw same (accepted-step made refl .1)
 
-    -- Each reply is itself sound, and it is given to a sound master frame alone.
-    pub replies-sound : SoundMaster (onTrusted past a b) → (r ≡ silent → ⊥)
-        → judgedSlave (codeOf (firstWord (onTrusted past a b))) r ≡ Sound
-    replies-sound m speaks = go (answer (hear a b) (after past)) refl spoke
-      where
-        go : (o : Option (List ℕ)) → answer (hear a b) (after past) ≡ o → spoken o ≡ r
-            → judgedSlave (codeOf (firstWord (onTrusted past a b))) r ≡ Sound
-        go none e z = absurd (speaks (sym z))
-        go (some ws) e z = rw (← z) (demand.reply-sound past all a b m ws e)
-
-    pub replies-alone : (SoundMaster (onTrusted past a b) → ⊥) → r ≡ silent
-    replies-alone m = sym spoke ∙ ap spoken (demand.no-other-reply past all a b m)
+    -- Each reply is exactly what the past tells, for every F-code and whatever was heard.
+    pub replies-exactly : r ≡ spoken (replyIn past a b)
+    replies-exactly = sym spoke ∙ ap spoken (demand.reply-told past all a b)
 
     -- A data reply holds the words that the host last wrote, a status reply the status word last set.
-    pub data-replied : SoundMaster (onTrusted past a b) → hasPorts (codeOf (firstWord (onTrusted past a b))) ≡ true
-        → r ≡ spoken (sourceTold past (firstWord (onTrusted past a b)) (openingOf past (addressOf (firstWord (onTrusted past a b)))))
+    pub data-replied : SoundMaster heardNow → hasPorts (codeOf (firstWord heardNow)) ≡ true
+        → r ≡ spoken (sourceTold past (firstWord heardNow) (openingOf past (addressOf (firstWord heardNow))))
     data-replied m p = sym spoke ∙ ap spoken (demand.data-reply past all a b m p)
 
-    pub status-replied : SoundMaster (onTrusted past a b) → pollsUs (s .controller .device) (firstWord (onTrusted past a b)) ≡ true
-        → r ≡ spoken (statusTold (lastStatus past))
-    status-replied m p =
-        let polled = ap (λ (u : World). pollsUs (u .controller .device) (firstWord (onTrusted past a b))) same ∙ p in
-        sym spoke ∙ ap spoken (demand.status-reply past all a b m polled)
+    pub status-replied : SoundMaster heardNow → codeOf (firstWord heardNow) ≡ 15
+        → addressOf (firstWord heardNow) ≡ lastSettings past .address → r ≡ spoken (statusTold (lastSettings past .status))
+    status-replied m p q = sym spoke ∙ ap spoken (demand.status-reply past all a b m p q)
 
   -- FC and EC are counted.
-  pub counted : s .controller .counts .fc ≡ framesJudged past % 65536
-  counted = rw (← same) (demand.fc-counted past all)
+  pub fc-counted : s .controller .counts .fc ≡ framesJudged past % 65536
+  fc-counted = rw (← same) (demand.fc-counted past all)
 
-  pub counted-unsound : s .controller .counts .ec ≡ min (framesUnsound past) 65535
-  counted-unsound = rw (← same) (demand.ec-counted past all)
+  pub ec-counted : s .controller .counts .ec ≡ min (framesUnsound past) 65535
+  ec-counted = rw (← same) (demand.ec-counted past all)
 
-  -- ---- demand 3: what the port at address a shows, which was opened last as o
+  -- ---- demand 3: what each address shows
 
-  module _ (a : ℕ) (o : Opening) (stands : openingOf past a ≡ some o) (v : View) (seen : view (s .areas) a ≡ some v) where
+  -- What was opened there last and not closed, with what filled it since; where nothing was, it shows nothing.
+  pub shows-told : (a : ℕ) → view (s .areas) a ≡ toldView past a (openingOf past a)
+  shows-told a = rw (← same) (demand.shows-told past all a)
+
+  -- Where no port was opened, `ask` says so.
+  pub ask-closed : (a : ℕ) (x : Answer) → x ≡ asked (s .areas) a → a < 4096 → openingOf past a ≡ none → x ≡ Refused 3
+  ask-closed a x e low none-open = e ∙ rw (← same) (demand.ask-closed past all a low none-open)
+
+  module _ (a : ℕ) (o : Opening) (stands : openingOf past a ≡ some o) where
     -- An open sink shows the words of the last sound slave frame that answered its master frame since it was opened, or that there
-    -- was none; a source those that the host last wrote.
-    pub sink-shows : o .sink ≡ true → v .shows ≡ lastOf (answersSince past a (o .word))
-    sink-shows k = demand.sink-shows past all a o stands v (rw same seen) k
+    -- was none, and its fills are their number-exactly; a source those that the host wrote.
+    pub sink-shows : o .sink ≡ true
+        → let l = answersSince past a (o .word) in
+        view (s .areas) a ≡ some (viewWith o (lastOf l) (length l % 65536))
+    sink-shows k = rw (← same) (demand.sink-shows past all a o stands k)
 
-    pub source-shows : o .sink ≡ false → v .shows ≡ lastOf (writesSince past a)
-    source-shows k = demand.source-shows past all a o stands v (rw same seen) k
-
-    pub fills-counted : v .fills ≡ length (fillings past a o) % 65536
-    fills-counted = demand.fills-counted past all a o stands v (rw same seen)
+    pub source-shows : o .sink ≡ false
+        → let l = writesSince past a in
+        view (s .areas) a ≡ some (viewWith o (lastOf l) (length l % 65536))
+    source-shows k = rw (← same) (demand.source-shows past all a o stands k)
 
     -- What `ask` and `fetch` answer: an empty port says that it is empty.
-    pub ask-never : (x : Answer) → x ≡ asked (s .areas) a → (x ≡ Never) ↔ (v .shows ≡ none)
-    ask-never x e = rw (e, ← same) (demand.ask-never past all a o stands v (rw same seen))
+    pub ask-never : (x : Answer) → x ≡ asked (s .areas) a → (x ≡ Never) ↔ (fillings past a o ≡ [])
+    ask-never x e = rw (e, ← same) (demand.ask-never past all a o stands)
 
-    pub fetch-shows : (ws : List ℕ) → ws ≡ fetched (s .areas) a → ws ≡ shownWords (v .shows)
-    fetch-shows ws e = e ∙ rw (← same) (demand.fetch-shows past all a o stands v (rw same seen))
+    pub fetch-shows : (ws : List ℕ) → ws ≡ fetched (s .areas) a → ws ≡ shownWords (lastOf (fillings past a o))
+    fetch-shows ws e = e ∙ rw (← same) (demand.fetch-shows past all a o stands)
 
--- A stretch of damage cut out of a run changes no port's words or fill count and no data reply after it.
-pub damage-cut : (before stretch later : List Call) (x : Hearing) {s u : World} → SoundMaster x → AllAlike later → Damage before stretch
-    → Ran (later ++ (hear x x ∷ (stretch ++ before))) s → Ran (later ++ (hear x x ∷ before)) u → Unseen s u
-damage-cut before stretch later x m l d long short =
-    rw (← (ran long .same), ← (ran short .same)) (damage-unseen before stretch later x m l d (ran long .all) .1)
+-- Whatever the areas hold, what `fetch` hands back is empty exactly when `ask` refuses or answers never.
+pub empty-exactly : (m : Areas) (a : ℕ) (ws : List ℕ) (x : Answer) → ws ≡ fetched m a → x ≡ asked m a
+    → (ws ≡ []) ↔ ((x ≡ Never) ⊎ ((n : ℕ) × (x ≡ Refused n)))
+empty-exactly m a ws x e i = rw (e, i) (empty-of m a)

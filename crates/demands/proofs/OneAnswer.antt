@@ -4,23 +4,20 @@ use mathlib.Core.Path.{_≡_, refl, sym, _∙_, ap}
 use mathlib.Core.Bool.{Bool, true, false, cond}
 use mathlib.Core.Option.{none}
 use lib.Dec.{eqb}
-use borrow.Author.Tests.{eqb-true}
 use Rattle.frames.specs.declared.Hearing.{Hearing}
 use Rattle.model.specs.declared.Answer.{Answer}
-use Rattle.model.specs.declared.Answer.the-variants.{Never, Good, Held, Refused}
 use Rattle.model.specs.declared.Controller.{Controller}
-use Rattle.model.specs.declared.Flags.{Flags}
 use Rattle.model.specs.Layout.{Areas}
-use Rattle.model.specs.Ports.{stateOf, isHeld}
 use Rattle.model.specs.Event.{World, world, silent}
 use Rattle.model.specs.Host.{Setting, settingOut, tell}
-use Rattle.model.specs.Calls.{Call, Outcome, outcomeOf, outcome, openPort, closePort, writePort, readPort, setting}
-use Rattle.model.specs.Calls.{needed, refusal, step, effect, answer, among, portRefusal, portAreas, asked, refusalOf}
+use Rattle.model.specs.Calls.{Call, Outcome, outcomeOf, outcome, readPort, setting, refusal, step, effect, answer, freshOver, portRefusal}
+use Rattle.model.specs.Calls.{portAreas, asked, refusalOf}
 use Rattle.ports.specs.Host.{Out, out, hostCall}
 use Rattle.controller.specs.declared.Reading.{Reading}
 use Rattle.controller.specs.declared.Told.{Told}
 use Rattle.controller.specs.Groups.{reading0, reading1}
-use Rattle.controller.specs.Settings.{answer as telling, told as toldOf}
+use Rattle.controller.specs.Settings.{toldWith, toldFor}
+use Rattle.model.proofs.Reading.{asked-number}
 use Rattle.demands.specs.Made.{Made, by-hear, by-quiet, by-open, by-close, by-write, by-ask, by-set-address, by-set-reply-time}
 use Rattle.demands.specs.Made.{by-set-status, by-set-slm, by-set-ls, by-clear-ec, by-reset, by-on-group0, by-on-group1}
 
@@ -29,8 +26,8 @@ outcomeWith n r t = record { refusal = n; reply = r; world = t }
 
 -- ---- the host's calls on ports ask nothing of the controller, and leave it
 
-module _ (c : Call) (s : World) (number : refusal c (among (s .areas)) ≡ refusal c s) (mute : answer c s ≡ none)
-    (left : step c s ≡ world (s .controller) (step c (among (s .areas)) .areas)) where
+module _ (c : Call) (s : World) (number : refusal c (freshOver (s .areas)) ≡ refusal c s) (mute : answer c s ≡ none)
+    (left : step c s ≡ world (s .controller) (step c (freshOver (s .areas)) .areas)) where
   on-ports : {m : Areas} {n : ℕ} → out m n ≡ hostCall c (s .areas) → outcome c s ≡ outcomeWith n silent (world (s .controller) m)
   unfolding hostCall portAreas portRefusal outcome
   on-ports {m} {n} e =
@@ -38,7 +35,7 @@ module _ (c : Call) (s : World) (number : refusal c (among (s .areas)) ≡ refus
     where
       go : (b : Bool) → eqb (refusal c s) 0 ≡ b
           → outcomeOf (refusal c s) c s
-          ≡ outcomeWith (refusal c s) silent (world (s .controller) (outcomeOf (refusal c s) c (among (s .areas)) .world .areas))
+          ≡ outcomeWith (refusal c s) silent (world (s .controller) (outcomeOf (refusal c s) c (freshOver (s .areas)) .world .areas))
       go true z = rw (z, mute, left)
       go false z = rw z
 
@@ -47,7 +44,7 @@ module _ (c : Call) (s : World) (number : refusal c (among (s .areas)) ≡ refus
 set : (s : World) (t : Setting)
     → outcome (setting t) s
     ≡ cond (settingOut t) (outcomeWith 2 silent s) (outcomeWith 0 silent (world (tell t (s .controller)) (s .areas)))
-unfolding outcome refusal needed step answer
+unfolding outcome refusal step answer
 set s t = go (settingOut t)
   where
     go : (b : Bool)
@@ -56,14 +53,14 @@ set s t = go (settingOut t)
     go true = refl
     go false = refl
 
-ranged : (s : World) (t : Setting) {r : Told} → r ≡ toldOf t (s .controller)
+ranged : (s : World) (t : Setting) {r : Told} → r ≡ toldFor t (s .controller)
     → outcome (setting t) s ≡ outcomeWith (r .refusal) silent (world (r .controller) (s .areas))
-unfolding toldOf
+unfolding toldFor
 ranged s t e = set s t ∙ rw e (go (settingOut t))
   where
     go : (b : Bool) → cond b (outcomeWith 2 silent s) (outcomeWith 0 silent (world (tell t (s .controller)) (s .areas)))
-        ≡ outcomeWith (cond b (telling 2 (s .controller)) (telling 0 (tell t (s .controller))) .refusal) silent
-        (world (cond b (telling 2 (s .controller)) (telling 0 (tell t (s .controller))) .controller) (s .areas))
+        ≡ outcomeWith (cond b (toldWith 2 (s .controller)) (toldWith 0 (tell t (s .controller))) .refusal) silent
+        (world (cond b (toldWith 2 (s .controller)) (toldWith 0 (tell t (s .controller))) .controller) (s .areas))
     go true = refl
     go false = refl
 
@@ -72,22 +69,6 @@ unranged : (s : World) (t : Setting) {c : Controller} → settingOut t ≡ false
 unranged s t z e = set s t ∙ rw (z, e)
 
 -- ---- reading: what asking refuses is what the call refuses
-
-state-number : (f : Flags) → refusalOf (stateOf f) ≡ 0
-unfolding stateOf
-state-number f = go (f .ever) (isHeld (f .faults))
-  where
-    go : (e h : Bool) → refusalOf (cond e (cond h Held Good) Never) ≡ 0
-    go true true = refl
-    go true false = refl
-    go false h = refl
-
-told-number : (k : ℕ) (f : Flags) → refusalOf (cond (eqb k 0) (stateOf f) (Refused k)) ≡ k
-told-number k f = go (eqb k 0) refl
-  where
-    go : (b : Bool) → eqb k 0 ≡ b → refusalOf (cond b (stateOf f) (Refused k)) ≡ k
-    go true z = state-number f ∙ sym (eqb-true k 0 z)
-    go false z = refl
 
 read-outcome : (k : ℕ) (a : ℕ) (s : World) → outcomeOf k (readPort a) s ≡ outcomeWith k silent s
 unfolding step answer
@@ -98,8 +79,8 @@ read-outcome k a s = go (eqb k 0)
     go false = refl
 
 read-number : (s : World) (a : ℕ) {x : Answer} → x ≡ asked (s .areas) a → refusalOf x ≡ refusal (readPort a) s
-unfolding asked portRefusal refusal needed
-read-number s a e = rw e (told-number (portRefusal (readPort a) (s .areas)) _)
+unfolding portRefusal refusal
+read-number s a e = ap refusalOf e ∙ asked-number (s .areas) a
 
 read : (s : World) (a : ℕ) {x : Answer} → x ≡ asked (s .areas) a → outcome (readPort a) s ≡ outcomeWith (refusalOf x) silent s
 unfolding outcome
@@ -108,7 +89,7 @@ read s a e = read-outcome (refusal (readPort a) s) a s ∙ rw (read-number s a e
 -- ---- every call
 
 pub made-outcome : {s t : World} {c : Call} {n : ℕ} {r : Hearing} → Made s c n r t → outcome c s ≡ outcomeWith n r t
-unfolding refusal needed step effect answer tell reading0 reading1
+unfolding refusal step effect answer tell reading0 reading1
 made-outcome (by-hear e) = sym e
 made-outcome (by-quiet e) = sym e
 made-outcome {s} {c = c} (by-open e) = on-ports c s refl refl refl e

@@ -16,17 +16,17 @@ use Rattle.controller.specs.declared.GroupCall.{GroupCall}
 use Rattle.controller.specs.declared.Reading.{Reading}
 use Rattle.controller.specs.declared.Told.{Told}
 use Rattle.controller.specs.Groups.{callOf, reading0, reading1}
-use Rattle.controller.specs.Settings.{told as toldOf}
+use Rattle.controller.specs.Settings.{toldFor}
 use Rattle.bus.specs.declared.Answered.{Answered}
-use Rattle.bus.specs.Promise.{told}
+use Rattle.bus.specs.Promise.{asOutcome}
 
 -- A call was made with the controller and the areas of s: it answered a number, 0 or its refusal, and a reply, and left t. Each line is
 -- the promise of the function that it names, for whatever that function answers; what a function is not lent stays as it was.
 pub data Made (s : World) : Call → ℕ → Hearing → World → Type 0 where
   -- bus::calls
-  by-hear : {a b : Hearing} {m : Areas} {r : Answered} → told m r ≡ outcome (hear a b) s
+  by-hear : {a b : Hearing} {m : Areas} {r : Answered} → asOutcome m r ≡ outcome (hear a b) s
       → Made s (hear a b) (r .refusal) (r .reply) (world (r .controller) m)
-  by-quiet : {n : ℕ} {m : Areas} {r : Answered} → told m r ≡ outcome (quiet n) s
+  by-quiet : {n : ℕ} {m : Areas} {r : Answered} → asOutcome m r ≡ outcome (quiet n) s
       → Made s (quiet n) (r .refusal) (r .reply) (world (r .controller) m)
   -- ports::calls; asking and fetching change nothing
   by-open : {a p code : ℕ} {sink : Bool} {i : ℕ} {m : Areas} {n : ℕ} → out m n ≡ hostCall (openPort a p code sink i) (s .areas)
@@ -37,9 +37,9 @@ pub data Made (s : World) : Call → ℕ → Hearing → World → Type 0 where
       → Made s (writePort a ws) n silent (world (s .controller) m)
   by-ask : {a : ℕ} {x : Answer} → x ≡ asked (s .areas) a → Made s (readPort a) (refusalOf x) silent s
   -- controller::settings
-  by-set-address : {a : ℕ} {r : Told} → r ≡ toldOf (address a) (s .controller)
+  by-set-address : {a : ℕ} {r : Told} → r ≡ toldFor (address a) (s .controller)
       → Made s (setting (address a)) (r .refusal) silent (world (r .controller) (s .areas))
-  by-set-reply-time : {t : ℕ} {r : Told} → r ≡ toldOf (replyTime t) (s .controller)
+  by-set-reply-time : {t : ℕ} {r : Told} → r ≡ toldFor (replyTime t) (s .controller)
       → Made s (setting (replyTime t)) (r .refusal) silent (world (r .controller) (s .areas))
   by-set-status : {w : ℕ} {c : Controller} → c ≡ tell (status w) (s .controller)
       → Made s (setting (status w)) 0 silent (world c (s .areas))

@@ -67,6 +67,7 @@ unfolding numbersIn itemsFrom
 numbers-read [] vs e = absurd (false≢true (ap (λ (n : Numbers). n .good) e))
 numbers-read (c ∷ cs) vs e = e
 
+-- a list of words is read from its text as itself
 pub list-back : (ws : List ℕ) → largest 0 ws ≤ 65535 → numbersIn (commas ws) ≡ numbers true ws
 unfolding commas commasFrom largest numbersIn
 list-back [] h = refl
@@ -74,6 +75,7 @@ list-back (w ∷ ws) h =
     numbers-read (decimal w ++ commasFrom true ws) (w ∷ ws)
     (word-read w (commasFrom true ws) (first-within 65535 0 w ws h) ∙ rest-read w (cond (ltb 0 w) w 0) ws h)
 
+-- and stands in the words that are lent for it, where there is room
 pub stored-back : (into ws : List ℕ) → largest 0 ws ≤ 65535 → length ws ≤ length into
     → take (length ws) (readingOf into (numbersIn (commas ws)) .store) ≡ ws
 stored-back into ws h room =
@@ -81,6 +83,7 @@ stored-back into ws h room =
 
 -- ---- a number alone
 
+-- a word is read from its text as itself
 pub number-back : (n : ℕ) → n ≤ 65535 → numberIn (decimal n) ≡ Value n
 unfolding numberIn itemsFrom
 number-back n h = rw (← append-nil (decimal n), numbers-read (decimal n ++ []) (n ∷ []) (word-read n [] h))
@@ -99,6 +102,7 @@ power-lacks b power v h = go (ltb v power)
     go true = refl
     go false = last-lacks b (v / power) h
 
+-- the text of a number has no byte below the digits, as a newline is
 pub number-lacks : (b n : ℕ) → b < 48 → has b (decimal n) ≡ false
 unfolding decimal
 number-lacks b n h =

@@ -12,23 +12,28 @@ use lib.ListN.{length, getD, set, drop, drop-of-length-le}
 use lib.Seq.{sets, drop-cons}
 use Rattle.digits.specs.declared.Listed.{Listed}
 use Rattle.digits.specs.declared.Number.the-variants.{Value, Malformed}
-use Rattle.digits.specs.Read.{isDigit, cut, longer, Numbers, numbers, with, itemsFrom, numbersIn, words}
-use Rattle.digits.specs.Read.{largest, listed, Reading, reading, readingOf, numberOf}
+use Rattle.digits.specs.Marks.{comma}
+use Rattle.digits.specs.Read.{isDigit, cut, longer, Numbers, numbers, with, itemsFrom, numbersIn, valuesOf}
+use Rattle.digits.specs.Read.{largest, listed, Reading, reading, readingOf, soleNumber}
 
 module _ (t : List ℕ) (i : ℕ) (h : i < length t) (begun : Bool) (v : ℕ) where
+  -- a digit goes on with the number
   pub item-digit : isDigit (getD t i 0) ≡ true → itemsFrom begun v (drop i t) ≡ itemsFrom true (longer v (getD t i 0)) (drop (i + 1) t)
   unfolding itemsFrom
   item-digit e = rw (drop-cons t i 0 h, e, add-one i)
 
-  pub item-ends : isDigit (getD t i 0) ≡ false → (begun && eqb (getD t i 0) 44) ≡ true
+  -- a comma after a digit ends the number, and the next one begins
+  pub item-ends : isDigit (getD t i 0) ≡ false → (begun && eqb (getD t i 0) comma) ≡ true
       → itemsFrom begun v (drop i t) ≡ with v (itemsFrom false 0 (drop (i + 1) t))
   unfolding itemsFrom
   item-ends e f = rw (drop-cons t i 0 h, e, f, add-one i)
 
-  pub item-fault : isDigit (getD t i 0) ≡ false → (begun && eqb (getD t i 0) 44) ≡ false → itemsFrom begun v (drop i t) ≡ numbers false []
+  -- any other byte is a fault, and nothing after it is read
+  pub item-fault : isDigit (getD t i 0) ≡ false → (begun && eqb (getD t i 0) comma) ≡ false → itemsFrom begun v (drop i t) ≡ numbers false []
   unfolding itemsFrom
   item-fault e f = rw (drop-cons t i 0 h, e, f)
 
+-- at the end of the text the number ends, if it has a digit
 pub item-last : (t : List ℕ) (i : ℕ) → length t ≤ i → (begun : Bool) (v : ℕ)
     → itemsFrom begun v (drop i t) ≡ cond begun (numbers true (v ∷ [])) (numbers false [])
 unfolding itemsFrom
@@ -39,16 +44,19 @@ item-last t i h begun v = rw (drop-of-length-le t h)
 -- k words are stored and m is the largest of them
 abbrev pub readingFrom : List ℕ → ℕ → ℕ → Numbers → Reading
 readingFrom into k m n =
-    reading (sets into k (words n)) (record { good = n .good; count = k + length (n .values); largest = largest m (n .values) })
+    reading (sets into k (valuesOf n)) (record { good = n .good; count = k + length (n .values); largest = largest m (n .values) })
 
+-- before the first byte all is still to be read
 pub reading-start : (into : List ℕ) (n : Numbers) → readingFrom into 0 0 n ≡ readingOf into n
 reading-start into n = rw (zero-add (length (n .values)))
 
+-- a number that ends is stored, counted and compared
 pub reading-with : (into : List ℕ) (k m v : ℕ) (n : Numbers)
     → readingFrom (set into k (cut 65535 v)) (k + 1) (cond (ltb m v) v m) n ≡ readingFrom into k m (with v n)
 unfolding largest
 reading-with into k m v n = rw (add-suc k (length (n .values)), add-one k, suc-add k (length (n .values)))
 
+-- with nothing left to be read, what was read is all
 pub reading-none : (into : List ℕ) (k m : ℕ) (b : Bool)
     → readingFrom into k m (numbers b []) ≡ reading into (record { good = b; count = k; largest = m })
 unfolding largest
@@ -69,10 +77,12 @@ largest-alone (v ∷ w ∷ vs) e = absurd (suc-ne-zero (length vs) (suc-inj e))
 
 -- what is told of a list says whether it is one number, and which
 module _ (into store : List ℕ) (l : Listed) (n : Numbers) (e : reading store l ≡ readingOf into n) where
+  -- what is told is told of the numbers that were read
   pub told : l ≡ listed n
   told = ap (λ (r : Reading). r .told) e
 
-  pub alone : (l .good && eqb (l .count) 1) ≡ true → Value (l .largest) ≡ numberOf n
+  -- one number: it is the largest
+  pub alone : (l .good && eqb (l .count) 1) ≡ true → Value (l .largest) ≡ soleNumber n
   alone h =
       let k : (n .good && eqb (length (n .values)) 1) ≡ true = ap (λ (x : Listed). x .good && eqb (x .count) 1) (sym told) ∙ h in
       let one : length (n .values) ≡ 1 = eqb-true (length (n .values)) 1 (second (n .good) (eqb (length (n .values)) 1) k) in
@@ -82,18 +92,21 @@ module _ (into store : List ℕ) (l : Listed) (n : Numbers) (e : reading store l
       second true b r = r
       second false b r = absurd (false≢true r)
 
-  pub not-alone : (l .good && eqb (l .count) 1) ≡ false → Malformed ≡ numberOf n
+  -- no number or several: the text is not a number
+  pub not-alone : (l .good && eqb (l .count) 1) ≡ false → Malformed ≡ soleNumber n
   not-alone h =
       let k : (n .good && eqb (length (n .values)) 1) ≡ false = ap (λ (x : Listed). x .good && eqb (x .count) 1) (sym told) ∙ h in
       rw k
 
 -- ---- an empty text
 
+-- an empty text is an empty list
 pub numbers-empty : (t : List ℕ) → length t ≡ 0 → numbersIn t ≡ numbers true []
 unfolding numbersIn
 numbers-empty [] e = refl
 numbers-empty (c ∷ cs) e = absurd (suc-ne-zero (length cs) e)
 
+-- any other text is read byte by byte
 pub numbers-some : (t : List ℕ) → (length t ≡ 0 → ⊥) → numbersIn t ≡ itemsFrom false 0 t
 unfolding numbersIn
 numbers-some [] e = absurd (e refl)

@@ -35,6 +35,7 @@ pub first-within : (limit m v : ℕ) (vs : List ℕ) → largest m (v ∷ vs) �
 unfolding largest
 first-within limit m v vs h = omega (arith, larger-right m v, largest-above (cond (ltb m v) v m) vs)
 
+-- numbers of which the largest is at most the limit are what they are when cut to it
 pub cut-same : (limit m : ℕ) (vs : List ℕ) → largest m vs ≤ limit → map (cut limit) vs ≡ vs
 unfolding largest
 cut-same limit m [] h = refl
@@ -46,6 +47,7 @@ map-set f [] i a = refl
 map-set f (x ∷ l) zero a = refl
 map-set f (x ∷ l) (suc i) a = ap (λ (r : List ℕ). f x ∷ r) (map-set f l i a)
 
+-- a function of each element goes past a store of several
 pub map-sets : (f : ℕ → ℕ) (l : List ℕ) (i : ℕ) (vs : List ℕ) → map f (sets l i vs) ≡ sets (map f l) i (map f vs)
 map-sets f l i [] = refl
 map-sets f l i (v ∷ vs) = map-sets f (set l i v) (suc i) vs ∙ ap (λ (r : List ℕ). sets r (suc i) (map f vs)) (map-set f l i v)

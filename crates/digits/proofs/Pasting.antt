@@ -11,8 +11,9 @@ use lib.Dec.{ltb}
 use lib.ListN.{length, getD, set, drop, length-set}
 use lib.Seq.{sets, set-out, drop-cons}
 use Rattle.digits.specs.Read.{cut}
-use Rattle.digits.specs.Write.{Paper, paper, lastPlace, withByte, onto, pasted, decimal, comma, commasFrom}
+use Rattle.digits.specs.Write.{Paper, paper, lastPlace, withByte, onto, pasted, decimal, dueComma, commasFrom}
 
+-- one text after another is the joined text
 pub onto-more : (p : Paper) (t u : List ℕ) → onto (onto p t) u ≡ onto p (t ++ u)
 unfolding onto
 onto-more p [] u = refl
@@ -24,21 +25,23 @@ then p t u e f = f ∙ ap (λ (x : Paper). onto x u) e ∙ onto-more p t u
 
 -- ---- one element more of what a loop writes
 
+-- the next byte of a text is written before the rest of it
 pub onto-next : (p : Paper) (t : List ℕ) (i : ℕ) → i < length t → onto p (drop i t) ≡ onto (onto p (getD t i 0 ∷ [])) (drop (i + 1) t)
 unfolding onto
 onto-next p t i h = rw (drop-cons t i 0 h, add-one i)
 
+-- the next number of a list is written, with a comma before it where one is due, before the rest of it
 pub commas-next : (p : Paper) (vs : List ℕ) (i : ℕ) → i < length vs
     → onto p (commasFrom (ltb 0 i) (drop i vs))
-    ≡ onto (onto (onto p (comma (ltb 0 i))) (decimal (getD vs i 0))) (commasFrom (ltb 0 (i + 1)) (drop (i + 1) vs))
+    ≡ onto (onto (onto p (dueComma (ltb 0 i))) (decimal (getD vs i 0))) (commasFrom (ltb 0 (i + 1)) (drop (i + 1) vs))
 unfolding commasFrom
 commas-next p vs i h =
     rw (
       drop-cons vs i 0 h,
       lt-ltb 0 (i + 1) (omega arith),
       add-one i,
-      onto-more p (comma (ltb 0 i)) (decimal (getD vs i 0)),
-      onto-more p (comma (ltb 0 i) ++ decimal (getD vs i 0)) (commasFrom true (drop (suc i) vs)),
+      onto-more p (dueComma (ltb 0 i)) (decimal (getD vs i 0)),
+      onto-more p (dueComma (ltb 0 i) ++ decimal (getD vs i 0)) (commasFrom true (drop (suc i) vs)),
     )
 
 -- ---- a text in a buffer that is no longer than the last place
@@ -82,6 +85,7 @@ written o at (b ∷ t) h k = go (ltb at lastPlace) refl (λ n r. written (set o 
           ends (at + suc (length t)) (omega arith),
         )
 
+-- what is written from the first place on stands in the buffer as far as there is room
 pub onto-pasted : (o t : List ℕ) → length o ≤ lastPlace → onto (paper o 0) t ≡ pasted o t
 unfolding pasted
 onto-pasted o t h = written o 0 t h (omega arith) ∙ rw (zero-add (length t))

@@ -6,14 +6,14 @@ use mathlib.Core.List.{List, [], _∷_}
 use lib.Dec.{eqb}
 
 -- the bytes before the first b; all of them where there is none
-unfoldable pub before : ℕ → List ℕ → List ℕ
-before b [] = []
-before b (c ∷ cs) = cond (eqb c b) [] (c ∷ before b cs)
+unfoldable pub textBefore : ℕ → List ℕ → List ℕ
+textBefore b [] = []
+textBefore b (c ∷ cs) = cond (eqb c b) [] (c ∷ textBefore b cs)
 
 -- the bytes after the first b; none where there is none
-unfoldable pub after : ℕ → List ℕ → List ℕ
-after b [] = []
-after b (c ∷ cs) = cond (eqb c b) cs (after b cs)
+unfoldable pub textAfter : ℕ → List ℕ → List ℕ
+textAfter b [] = []
+textAfter b (c ∷ cs) = cond (eqb c b) cs (textAfter b cs)
 
 -- a b is there
 unfoldable pub has : ℕ → List ℕ → Bool

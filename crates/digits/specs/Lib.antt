@@ -1,3 +1,4 @@
+pub mod Marks
 pub mod Cut
 pub mod Read
 pub mod Write

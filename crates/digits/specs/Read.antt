@@ -9,6 +9,7 @@ use lib.Seq.{sets}
 use Rattle.digits.specs.declared.Listed.{Listed}
 use Rattle.digits.specs.declared.Number.{Number}
 use Rattle.digits.specs.declared.Number.the-variants.{Value, Malformed}
+use Rattle.digits.specs.Marks.{comma}
 
 -- ---- a number, digit by digit
 
@@ -31,6 +32,7 @@ pub record Numbers : Type 0 where
   pub good : Bool
   pub values : List ℕ
 
+-- such a list, by its parts
 abbrev pub numbers : Bool → List ℕ → Numbers
 numbers b vs = record { good = b; values = vs }
 
@@ -44,7 +46,7 @@ unfoldable pub itemsFrom : Bool → ℕ → List ℕ → Numbers
 itemsFrom begun v [] = cond begun (numbers true (v ∷ [])) (numbers false [])
 itemsFrom begun v (c ∷ cs) =
     cond (isDigit c) (itemsFrom true (longer v c) cs)
-    (cond (begun && eqb c 44) (with v (itemsFrom false 0 cs)) (numbers false []))
+    (cond (begun && eqb c comma) (with v (itemsFrom false 0 cs)) (numbers false []))
 
 -- an empty text is an empty list
 unfoldable pub numbersIn : List ℕ → Numbers
@@ -58,28 +60,31 @@ unfoldable pub largest : ℕ → List ℕ → ℕ
 largest m [] = m
 largest m (v ∷ vs) = largest (cond (ltb m v) v m) vs
 
+-- whether it is a list, how many numbers stand in it, and the largest of them or 0
 abbrev pub listed : Numbers → Listed
 listed n = record { good = n .good; count = length (n .values); largest = largest 0 (n .values) }
 
 -- the numbers as 16-bit words
-abbrev pub words : Numbers → List ℕ
-words n = map (cut 65535) (n .values)
+abbrev pub valuesOf : Numbers → List ℕ
+valuesOf n = map (cut 65535) (n .values)
 
 -- what a list leaves in the words that were lent for it, and what is told of it
 pub record Reading : Type 0 where
   pub store : List ℕ
   pub told : Listed
 
+-- such a reading, by its parts
 abbrev pub reading : List ℕ → Listed → Reading
 reading into l = record { store = into; told = l }
 
 -- the numbers are stored from the first place on, as far as there is room
 abbrev pub readingOf : List ℕ → Numbers → Reading
-readingOf into n = reading (sets into 0 (words n)) (listed n)
+readingOf into n = reading (sets into 0 (valuesOf n)) (listed n)
 
 -- one number alone
-abbrev pub numberOf : Numbers → Number
-numberOf n = cond (n .good && eqb (length (n .values)) 1) (Value (getD (n .values) 0 0)) Malformed
+abbrev pub soleNumber : Numbers → Number
+soleNumber n = cond (n .good && eqb (length (n .values)) 1) (Value (getD (n .values) 0 0)) Malformed
 
+-- the number that a text is
 unfoldable pub numberIn : List ℕ → Number
-numberIn t = numberOf (numbersIn t)
+numberIn t = soleNumber (numbersIn t)

@@ -5,14 +5,17 @@ use mathlib.Core.List.{List, [], _∷_, _++_}
 use lib.Dec.{ltb}
 use lib.ListN.{length, set}
 use lib.Seq.{sets}
+use Rattle.digits.specs.Marks.{comma}
 use Rattle.digits.specs.Read.{cut}
 
 -- ---- a lent buffer, and the place where the next byte goes
 
+-- the bytes of the buffer, and the place
 pub record Paper : Type 0 where
   pub text : List ℕ
   pub at : ℕ
 
+-- a buffer and a place, by their parts
 abbrev pub paper : List ℕ → ℕ → Paper
 paper t n = record { text = t; at = n }
 
@@ -48,14 +51,15 @@ unfoldable pub decimal : ℕ → List ℕ
 decimal v = digitAt 10000 v ++ digitAt 1000 v ++ digitAt 100 v ++ digitAt 10 v ++ ((v % 10 + 48) ∷ [])
 
 -- a comma, where one is due
-abbrev pub comma : Bool → List ℕ
-comma true = 44 ∷ []
-comma false = []
+abbrev pub dueComma : Bool → List ℕ
+dueComma true = comma ∷ []
+dueComma false = []
 
 -- numbers with commas between, and one before the first where it follows another
 unfoldable pub commasFrom : Bool → List ℕ → List ℕ
 commasFrom b [] = []
-commasFrom b (v ∷ vs) = comma b ++ decimal v ++ commasFrom true vs
+commasFrom b (v ∷ vs) = dueComma b ++ decimal v ++ commasFrom true vs
 
+-- numbers with commas between
 unfoldable pub commas : List ℕ → List ℕ
 commas vs = commasFrom false vs

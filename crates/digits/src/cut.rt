@@ -1,6 +1,6 @@
 // Texts cut at the first of a byte, and compared.
 ghost use mathlib.Core.Path.{_≡_};
-ghost use Rattle.digits.specs.Cut.{before, after, has, until, same};
+ghost use Rattle.digits.specs.Cut.{textBefore, textAfter, has, until, same};
 
 // How many bytes stand before the first b; all of them where there is none.
 pub fn find(t: &[u8], b: u8) -> usize
@@ -19,7 +19,7 @@ pub fn find(t: &[u8], b: u8) -> usize
 
 // The bytes before the first b.
 pub fn before<'a>(t: &'a [u8], b: u8) -> &'a [u8]
-    ensures { λ r. ⌜ now r ≡ before b (now (t .entry)) ⌝ }
+    ensures { λ r. ⌜ now r ≡ textBefore b (now (t .entry)) ⌝ }
 {
     let n = find(t, b);
     &t[..n]
@@ -27,7 +27,7 @@ pub fn before<'a>(t: &'a [u8], b: u8) -> &'a [u8]
 
 // The bytes after the first b.
 pub fn after<'a>(t: &'a [u8], b: u8) -> &'a [u8]
-    ensures { λ r. ⌜ now r ≡ after b (now (t .entry)) ⌝ }
+    ensures { λ r. ⌜ now r ≡ textAfter b (now (t .entry)) ⌝ }
 {
     let n = find(t, b);
     if n < t.len() {

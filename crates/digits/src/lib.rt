@@ -7,7 +7,7 @@
 //
 // What is written reads back: numbers of at most 65,535, alone or in a list, are read from their text as themselves (proofs/Back.antt).
 //
-// `cut` has the texts, `read` the numbers, `write` the buffer.
+// `cut` has the texts, `read` the numbers, `write` the buffer. specs/Marks.antt names the bytes that stand between.
 pub mod cut;
 pub mod read;
 pub mod write;

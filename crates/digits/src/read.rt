@@ -1,7 +1,7 @@
 // Decimal numbers, and lists of them with commas between.
 ghost use mathlib.Core.Path.{_≡_};
 ghost use mathlib.Core.Bool.{false, cond};
-ghost use Prim.Native.Nat.{_-_, _+_};
+ghost use Prim.Native.Nat.{_-_};
 ghost use lib.Dec.{ltb};
 ghost use lib.ListN.{set};
 ghost use Rattle.digits.specs.Read.{isDigit, cut, longer, itemsFrom, numbersIn, reading, readingOf, numberIn};

@@ -3,7 +3,7 @@ ghost use mathlib.Core.Path.{_≡_};
 ghost use mathlib.Core.List.{[], _∷_};
 ghost use Prim.Native.Nat.{_<_};
 ghost use lib.ListN.{set};
-ghost use Rattle.digits.specs.Write.{paper, nextPlace, onto, digitAt, decimal, comma, commas};
+ghost use Rattle.digits.specs.Write.{paper, nextPlace, onto, digitAt, decimal, dueComma, commas};
 
 const LAST_PLACE: usize = 18446744073709551615;
 
@@ -69,7 +69,7 @@ pub fn put_number(out: &mut [u8], at: usize, v: u16) -> usize
 
 // A comma, where one is due.
 fn put_comma(out: &mut [u8], at: usize, due: bool) -> usize
-    ensures { λ r. ⌜ paper (now (out .exit)) r ≡ onto (paper (now (out .entry)) at) (comma due) ⌝ }
+    ensures { λ r. ⌜ paper (now (out .exit)) r ≡ onto (paper (now (out .entry)) at) (dueComma due) ⌝ }
 {
     if due {
         return put(out, at, b',');

@@ -9,7 +9,8 @@ use Rattle.model.specs.declared.Counts.{Counts}
 use Rattle.model.specs.declared.Heard.{Heard}
 use Rattle.model.specs.declared.Heard.the-variants.{Nothing, Unsound, Master, Reply, Stray}
 use Rattle.model.specs.Host.{counts}
-use Rattle.model.specs.Event.{isBad, counted, countsAfter}
+use Rattle.model.specs.Event.{isBad}
+use Rattle.model.proofs.Tables.{isCounted, countsAfter}
 use Rattle.events.specs.Counts.{unsound}
 
 -- an unsound frame counted, with a sum that could wrap
@@ -26,7 +27,7 @@ stops true e = go (ltb e 65535) refl
     go false h = refl
 
 pub by-tests : (n : Counts) (h : Heard)
-    → counts (cond (counted h) ((n .fc + 1) % 65536) (n .fc)) (cond (unsound h && ltb (n .ec) 65535) ((n .ec + 1) % 65536) (n .ec))
+    → counts (cond (isCounted h) ((n .fc + 1) % 65536) (n .fc)) (cond (unsound h && ltb (n .ec) 65535) ((n .ec + 1) % 65536) (n .ec))
     ≡ countsAfter n h
 unfolding wrapped
 by-tests n Nothing = refl

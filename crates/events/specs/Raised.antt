@@ -3,7 +3,6 @@
 use Prim.Native.Nat.{ℕ}
 use mathlib.Core.Bool.{not, _&&_}
 use mathlib.Core.List.{List, [], _∷_}
-use mathlib.Core.Option.{Option, none, some}
 use lib.Dec.{eqb, ltb}
 use Rattle.frames.specs.declared.Judgement.{Judgement}
 use Rattle.frames.specs.declared.Judgement.the-variants.{Sound, Unsound as Bad}
@@ -12,9 +11,7 @@ use Rattle.model.specs.declared.Exchange.{Exchange}
 use Rattle.model.specs.declared.Times.{Times}
 use Rattle.model.specs.declared.Heard.{Heard}
 use Rattle.model.specs.declared.Heard.the-variants.{Nothing, Unsound, Master, Reply, Stray}
-use Rattle.model.specs.Layout.{Areas}
-use Rattle.model.specs.Ports.{View}
-use Rattle.model.specs.Event.{sinkFor, when, waitsFor, isDone}
+use Rattle.model.specs.Event.{when, waitsFor, isDone}
 
 -- ESF for an unsound reply, else the interrupt
 abbrev pub replyBits : Judgement → ℕ → List ℕ
@@ -27,16 +24,3 @@ bits0 x t Unsound i = EMF ∷ []
 bits0 x t (Master w) i = when (waitsFor x w) DMF
 bits0 x t (Reply w j) i = SFC ∷ replyBits j i
 bits0 x t Stray i = SFC ∷ when (isDone x && ltb (t .since) (t .adopted)) DSF
-
--- the interrupt of a port, 0 without one
-abbrev pub interruptOr0 : Option View → ℕ
-interruptOr0 none = 0
-interruptOr0 (some v) = v .interrupt
-
--- the interrupt of the sink that a reply answers for; nothing else fills a port
-abbrev pub interruptHeard : Areas → Heard → ℕ
-interruptHeard m Nothing = 0
-interruptHeard m Unsound = 0
-interruptHeard m (Master w) = 0
-interruptHeard m (Reply w j) = interruptOr0 (sinkFor m w)
-interruptHeard m Stray = 0

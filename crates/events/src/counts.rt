@@ -7,12 +7,12 @@ use model::Counts;
 use model::Heard;
 use std::num::wrapping_add_u16;
 ghost use mathlib.Core.Path.{_≡_};
-ghost use Rattle.model.specs.Event.{counted, countsAfter};
+ghost use Rattle.model.proofs.Tables.{isCounted, countsAfter};
 ghost use Rattle.events.specs.Counts.{unsound};
 
 // A frame was judged.
-pub fn counted(h: Heard) -> bool
-    ensures { λ r. ⌜ r ≡ counted h ⌝ }
+pub fn is_counted(h: Heard) -> bool
+    ensures { λ r. ⌜ r ≡ isCounted h ⌝ }
 {
     match h {
         Heard::Nothing => false,
@@ -41,7 +41,7 @@ pub fn counts_after(n: Counts, h: Heard) -> Counts
     ensures { λ r. ⌜ r ≡ countsAfter n h ⌝ }
 {
     let mut m = n;
-    m.fc = pick(counted(h), wrapping_add_u16(n.fc, 1), n.fc);
+    m.fc = pick(is_counted(h), wrapping_add_u16(n.fc, 1), n.fc);
     m.ec = pick(
         both(unsound(h), n.ec < LAST_EC),
         wrapping_add_u16(n.ec, 1),

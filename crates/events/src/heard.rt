@@ -11,7 +11,8 @@ use model::Heard;
 use model::Lines;
 use model::Times;
 ghost use mathlib.Core.Path.{_≡_};
-ghost use Rattle.model.specs.Event.{asMaster, asSlave, heard, timesAfter, isBad, disturbs, pollsUs, polls, linesAfter};
+ghost use Rattle.model.specs.Event.{asMaster, asSlave, heard, isBad, pollsUs};
+ghost use Rattle.model.proofs.Tables.{timesAfter, disturbs, polls, linesAfter};
 ghost use Rattle.frames.specs.Judge.{judgedMaster};
 
 // A master frame: its first word if it is sound.
@@ -85,7 +86,7 @@ pub fn disturbs(h: Heard) -> bool
         Heard::Nothing => false,
         Heard::Unsound => true,
         Heard::Master(_) => false,
-        Heard::Reply(w, j) => both(is_bad(j), !lines::arbitration(w / CODE_UNIT)),
+        Heard::Reply(w, j) => both(is_bad(j), !lines::exempt(w / CODE_UNIT)),
         Heard::Stray => false,
     }
 }

@@ -1,6 +1,6 @@
 // Document 01, "What one bus event does" and "Two interrupt groups": the bits that an event raises in the two groups.
-use crate::counts::counted;
 use crate::counts::counts_after;
+use crate::counts::is_counted;
 use choice::both;
 use frames::Judgement;
 use interrupts::Group;
@@ -11,7 +11,8 @@ use model::Exchange;
 use model::Heard;
 use model::Times;
 ghost use mathlib.Core.Path.{_≡_};
-ghost use Rattle.model.specs.Event.{raiseAll, when, waitsFor, isDone, raised1};
+ghost use Rattle.model.specs.Event.{raiseAll, when, waitsFor, isDone};
+ghost use Rattle.model.proofs.Tables.{raised1};
 ghost use Rattle.events.specs.Raised.{replyBits, bits0};
 
 // The bits are raised on this occasion, and else nothing.
@@ -76,5 +77,5 @@ pub fn raise1(n: Counts, h: Heard, g: Group) -> Group
     ensures { λ r. ⌜ r ≡ raiseAll (raised1 n h) g ⌝ }
 {
     let m = counts_after(n, h);
-    raise_if(both(counted(h), m.fc == 0), names::FEV, g)
+    raise_if(both(is_counted(h), m.fc == 0), names::FEV, g)
 }

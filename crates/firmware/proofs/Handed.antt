@@ -11,7 +11,7 @@ use Rattle.model.specs.Event.{world, silent}
 use Rattle.model.specs.Host.{Setting, settingOut, freshController, tell, group0, group1}
 use Rattle.model.specs.Calls.{Call, outcome}
 use Rattle.controller.specs.declared.GroupCall.{GroupCall}
-use Rattle.controller.specs.Settings.{told, answer as answered}
+use Rattle.controller.specs.Settings.{toldFor, toldWith as answered}
 use Rattle.controller.specs.Groups.{callOf, reading0, reading1}
 use Rattle.flat.specs.declared.FlatController.{FlatController}
 use Rattle.flat.specs.Flags.{isBit, isSet}
@@ -35,7 +35,7 @@ call-handed true c f m e = ours-kept c (world (controllerOf f) m) (ours-taken f 
 call-handed false c f m e = e
 
 pub setting-handed : (given : Bool) (t : Setting) (f : FlatController) → ours f ≡ true → ours (setThrough given t f .controller) ≡ true
-unfolding setThrough told
+unfolding setThrough toldFor
 setting-handed false t f e = e
 setting-handed true t f e = go (settingOut t) refl
   where

@@ -10,8 +10,6 @@ use lib.Dec.{eqb, leb}
 use lib.ListN.{length, drop, length-take}
 use borrow.Author.Tests.{leb-true}
 use Rattle.sequence.specs.Frame.{blocks, frameChecks}
-use Rattle.frames.specs.declared.Expected.{Expected}
-use Rattle.frames.specs.declared.Expected.the-variants.{Words as Expects, NoReply}
 use Rattle.frames.specs.declared.Hearing.{Hearing}
 use Rattle.frames.specs.Size.{expectedOf}
 use Rattle.model.specs.declared.Answer.{Answer}
@@ -22,9 +20,11 @@ use Rattle.model.specs.declared.Heard.the-variants.{Nothing, Unsound, Master, R
 use Rattle.model.specs.declared.Sought.{Sought}
 use Rattle.model.specs.declared.Sought.the-variants.{Nothing as NoPort, Damaged, Port}
 use Rattle.model.specs.Layout.{Areas, entry, portAt, flagsOf, partOf, pagePlace}
-use Rattle.model.specs.Ports.{codeOf, addressOf, hasPorts, sizeOf, validWords, View, viewOf, seek, seen, view}
+use Rattle.model.specs.Ports.{codeOf, addressOf, hasPorts, sizeOf, validWords, Standing, standingOf, seek, seen, standing}
 use Rattle.model.specs.Event.{World, openFor, portFor, ifSource, sourceFor, pollsUs, ownWords, ifExpected, answerTo, sent, silent, spoken}
-use Rattle.model.specs.Event.{answerOf, heardBy, hearAnswer}
+use Rattle.model.specs.Event.{heardBy}
+use Rattle.model.proofs.Tables.{answerOf}
+use Rattle.model.proofs.Tables.{hear-answer}
 use Rattle.model.specs.Calls.{Call, hear, quiet, openPort, closePort, writePort, readPort, setting, answer, refusal, outcome, asked}
 use Rattle.model.specs.Calls.{partFor, fetched}
 use Rattle.model.proofs.Formed.{size-small}
@@ -54,7 +54,7 @@ abbrev Short : Option (List ℕ) → Type 0
 Short none = Unit
 Short (some ws) = length ws ≤ 16
 
-abbrev Shows : Option View → Type 0
+abbrev Shows : Option Standing → Type 0
 Shows none = Unit
 Shows (some v) = Short (v .shows)
 
@@ -62,13 +62,13 @@ cond-short : (b : Bool) (x y : Option (List ℕ)) → Short x → Short y → Sh
 cond-short true x y h k = h
 cond-short false x y h k = k
 
-cond-shows : (b : Bool) (x y : Option View) → Shows x → Shows y → Shows (cond b x y)
+cond-shows : (b : Bool) (x y : Option Standing) → Shows x → Shows y → Shows (cond b x y)
 cond-shows true x y h k = h
 cond-shows false x y h k = k
 
-view-shows : (m : Areas) (a : ℕ) → Shows (view m a)
-unfolding view viewOf
-view-shows m a = go (seek m a)
+standing-shows : (m : Areas) (a : ℕ) → Shows (standing m a)
+unfolding standing standingOf
+standing-shows m a = go (seek m a)
   where
     go : (x : Sought) → Shows (seen m x)
     go NoPort = tt
@@ -79,13 +79,13 @@ view-shows m a = go (seek m a)
 
 port-shows : (m : Areas) (w : ℕ) → Shows (portFor m w)
 unfolding portFor
-port-shows m w = cond-shows (hasPorts (codeOf w)) _ none (go (view m (addressOf w)) (view-shows m (addressOf w))) tt
+port-shows m w = cond-shows (hasPorts (codeOf w)) _ none (go (standing m (addressOf w)) (standing-shows m (addressOf w))) tt
   where
-    go : (o : Option View) → Shows o → Shows (openFor w o)
+    go : (o : Option Standing) → Shows o → Shows (openFor w o)
     go none h = tt
     go (some v) h = cond-shows (eqb (v .word) w) (some v) none h tt
 
-source-short : (o : Option View) → Shows o → Short (ifSource o)
+source-short : (o : Option Standing) → Shows o → Short (ifSource o)
 source-short none h = tt
 source-short (some v) h = cond-short (v .sink) none (v .shows) tt h
 
@@ -93,9 +93,9 @@ own-short : (d : Device) (w : ℕ) (o : Option (List ℕ)) → Short o → Short
 own-short d w none h = cond-short (pollsUs d w && d .set) (some (d .status ∷ [])) none (omega arith) tt
 own-short d w (some ws) h = h
 
-expected-short : (x : Expected) (o : Option (List ℕ)) → Short o → Short (ifExpected x o)
-expected-short (Expects n) o h = h
-expected-short NoReply o h = tt
+expected-short : (x : Option ℕ) (o : Option (List ℕ)) → Short o → Short (ifExpected x o)
+expected-short (some n) o h = h
+expected-short none o h = tt
 
 heard-short : (d : Device) (m : Areas) (h : Heard) → Short (answerOf d m h)
 unfolding answerTo
@@ -107,8 +107,8 @@ heard-short d m (Reply w j) = tt
 heard-short d m Stray = tt
 
 answer-short : (c : Call) (s : World) → Short (answer c s)
-unfolding answer hearAnswer
-answer-short (hear a b) s = heard-short (s .controller .device) (s .areas) (heardBy (s .controller) a b)
+unfolding answer
+answer-short (hear a b) s = rw (hear-answer s a b) (heard-short (s .controller .device) (s .areas) (heardBy (s .controller) a b))
 answer-short (quiet n) s = tt
 answer-short (openPort a p code sink i) s = tt
 answer-short (closePort a) s = tt

@@ -16,7 +16,7 @@ use Rattle.model.specs.Calls.{Call, Outcome, outcome, asked, fetched, refusalOf
 use Rattle.controller.specs.declared.GroupCall.{GroupCall}
 use Rattle.controller.specs.declared.Reading.{Reading}
 use Rattle.controller.specs.declared.Told.{Told}
-use Rattle.controller.specs.Settings.{told}
+use Rattle.controller.specs.Settings.{toldFor}
 use Rattle.controller.specs.Groups.{reading0, reading1}
 use Rattle.ports.specs.Host.{Out, out, hostCall}
 use Rattle.flat.specs.declared.FlatController.{FlatController}
@@ -70,15 +70,15 @@ flatChecks ws = record { count = frameChecks ws .count; bytes = frameChecks ws .
 unfoldable pub openThrough : Bool → Call → Areas → Out
 openThrough given c m = cond given (hostCall c m) (out m (awayNumber m))
 
-abbrev pub number : ℕ → ℕ → Number
-number n v = record { refusal = n; value = v }
+abbrev pub numberWith : ℕ → ℕ → Number
+numberWith n v = record { refusal = n; value = v }
 
 -- 0 never, 1 good, 2 held
 abbrev pub answerNumber : Answer → Number
-answerNumber Never = number 0 0
-answerNumber Good = number 0 1
-answerNumber Held = number 0 2
-answerNumber (Refused n) = number n 0
+answerNumber Never = numberWith 0 0
+answerNumber Good = numberWith 0 1
+answerNumber Held = numberWith 0 2
+answerNumber (Refused n) = numberWith n 0
 
 unfoldable pub fetching : Areas → ℕ → Fetched
 fetching m a = record { refusal = refusalOf (asked m a); size = length (fetched m a); words = padded (fetched m a) }
@@ -92,7 +92,7 @@ abbrev pub awayTold : FlatController → FlatTold
 awayTold f = record { refusal = 2; controller = f }
 
 unfoldable pub setThrough : Bool → Setting → FlatController → FlatTold
-setThrough given s f = cond given (flatTold (told s (controllerOf f))) (awayTold f)
+setThrough given s f = cond given (flatTold (toldFor s (controllerOf f))) (awayTold f)
 
 -- ---- interrupt groups, 0 or 1
 
@@ -114,4 +114,4 @@ readThrough n k f = cond (ours f && isBit n) (flatReading (reading n k (controll
 -- ---- a number of the controller: the outgoing line of a group, 1 while it is active; FC; EC
 
 abbrev pub asks : Bool → ℕ → Number
-asks given v = cond given (number 0 v) (number 2 0)
+asks given v = cond given (numberWith 0 v) (numberWith 2 0)

@@ -2,7 +2,7 @@
 ghost use mathlib.Core.Path.{_≡_};
 ghost use mathlib.Core.Bool.{cond, _&&_};
 ghost use Rattle.model.specs.Host.{freshController, address, status, replyTime, slm, ls, clearEC};
-ghost use Rattle.controller.specs.Settings.{answer};
+ghost use Rattle.controller.specs.Settings.{toldWith};
 ghost use Rattle.flat.specs.Flags.{isBit, isSet};
 ghost use Rattle.flat.specs.Controller.{flat, ours};
 ghost use Rattle.firmware.specs.Promise.{flatTold, awayTold, setThrough};
@@ -26,7 +26,7 @@ pub extern "C" fn tolvendrum_reset() -> FlatController
 
 // A setting that has no range was made.
 fn made(c: Controller) -> Told
-    ensures { λ r. ⌜ r ≡ answer 0 c ⌝ }
+    ensures { λ r. ⌜ r ≡ toldWith 0 c ⌝ }
 {
     Told {
         refusal: 0,

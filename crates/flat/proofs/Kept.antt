@@ -11,17 +11,20 @@ use Rattle.frames.specs.declared.Hearing.{Hearing}
 use Rattle.interrupts.specs.declared.Group.{Group}
 use Rattle.interrupts.specs.Group.{raised}
 use Rattle.interrupts.specs.Names.{RTI, BTI, used0, used1}
-use Rattle.interrupts.specs.Shape.{raise, after, Shaped}
+use Rattle.interrupts.specs.Calls.{raise, groupAfter}
+use Rattle.interrupts.specs.Shape.{Shaped}
 use Rattle.interrupts.proofs.Theorems.{shaped-fresh, shaped-after}
 use Rattle.model.specs.declared.Controller.{Controller}
 use Rattle.model.specs.declared.Heard.{Heard}
 use Rattle.model.specs.declared.Heard.the-variants.{Nothing, Unsound, Master, Reply, Stray}
 use Rattle.model.specs.declared.Times.{Times}
-use Rattle.model.specs.Event.{World, raiseAll, when, raised0, raised1, timesAfter, heardBy, hearController}
+use Rattle.model.specs.Event.{World, raiseAll, when, heardBy, hearController}
+use Rattle.model.proofs.Tables.{raised0, raised1, timesAfter}
 use Rattle.model.specs.Quiet.{busTimeout, lineTimeout, timesLater, isSome, busSilent, due, tickController, tick, ticks}
 use Rattle.model.specs.Host.{Setting, address, status, replyTime, slm, ls, clearEC, reset, group0, group1, isReplyTime, settingOut}
 use Rattle.model.specs.Host.{freshController, tell}
-use Rattle.model.specs.Calls.{Call, hear, quiet, openPort, closePort, writePort, readPort, setting, needed, refusal, step, outcome}
+use Rattle.model.specs.Calls.{Call, hear, quiet, openPort, closePort, writePort, readPort, setting, refusal, step, outcome}
+use Rattle.model.proofs.Tables.{hear-controller}
 use Rattle.flat.specs.declared.FlatController.{FlatController}
 use Rattle.flat.specs.Controller.{controllerOf, ours}
 use Rattle.flat.specs.Kept.{Ours}
@@ -36,7 +39,7 @@ ours-taken f e = record { first = refl; second = refl; numbers = ap ours (same-n
 -- ---- the groups
 
 raised-shaped : {u : ℕ} (bs : List ℕ) (g : Group) → Shaped u g → Shaped u (raiseAll bs g)
-unfolding after
+unfolding groupAfter
 raised-shaped [] g s = s
 raised-shaped (b ∷ bs) g s = raised-shaped bs (raised g b) (shaped-after (raise b) g s)
 
@@ -69,16 +72,16 @@ later-times t r =
 -- ---- the calls
 
 heard-right : (s : World) (a b : Hearing) → Right (s .controller) → Right (hearController s a b)
-unfolding hearController
 heard-right s a b r =
     let c = s .controller in
     let h = heardBy c a b in
-    record {
+    rw (hear-controller s a b)
+    (record {
       times = heard-times (c .times) h (r .times);
       group0 = raised-shaped (raised0 (s .areas) (c .exchange) (c .times) h) (c .group0) (r .group0);
       group1 = raised-shaped (raised1 (c .counts) h) (c .group1) (r .group1);
       device = r .device;
-    }
+    })
 
 tick-right : (s : World) → Right (s .controller) → Right (tick s .controller)
 unfolding tick tickController
@@ -142,7 +145,7 @@ told-right (group1 g) c e r =
 
 -- an accepted call
 step-right : (c : Call) (s : World) → refusal c s ≡ 0 → Right (s .controller) → Right (step c s .controller)
-unfolding step refusal needed
+unfolding step refusal
 step-right (hear a b) s e r = heard-right s a b r
 step-right (quiet n) s e r = ticks-right n s r
 step-right (openPort a p code sink i) s e r = r

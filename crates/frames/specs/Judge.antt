@@ -1,5 +1,6 @@
 -- Document 01, "What one bus event does": a frame is sound with no quality mark, the right size, the right number of check bytes and
 -- each byte right. Assumes nothing.
+use mathlib.Core.Option.{Option, none, some}
 use Prim.Native.Nat.{ℕ}
 use mathlib.Core.Bool.{Bool, false, cond, not, _&&_, _||_}
 use mathlib.Core.List.{List}
@@ -7,8 +8,6 @@ use lib.Dec.{eqb, leb}
 use lib.ListN.{length, getD}
 use Rattle.sequence.specs.Frame.{blocks, checkAt}
 use Rattle.frames.specs.declared.Hearing.{Hearing}
-use Rattle.frames.specs.declared.Expected.{Expected}
-use Rattle.frames.specs.declared.Expected.the-variants.{Words, NoReply}
 use Rattle.frames.specs.declared.Judgement.{Judgement}
 use Rattle.frames.specs.declared.Judgement.the-variants.{Sound, Unsound}
 use Rattle.frames.specs.Hearing.{wordsOf, marked}
@@ -39,9 +38,9 @@ unfoldable pub judgedMaster : Hearing → Judgement
 judgedMaster h = judged 1 h
 
 -- a slave frame is sized by what is expected, and never by its own length; where nothing is expected no frame is sound
-abbrev pub judgedFor : Expected → Hearing → Judgement
-judgedFor (Words n) h = judged n h
-judgedFor NoReply h = Unsound false
+abbrev pub judgedFor : Option ℕ → Hearing → Judgement
+judgedFor (some n) h = judged n h
+judgedFor none h = Unsound false
 
 -- for slaves the size comes from the waiting F-code
 unfoldable pub judgedSlave : ℕ → Hearing → Judgement

@@ -11,7 +11,7 @@ ghost use mathlib.Core.Bool.{true, _||_};
 ghost use lib.Dec.{eqb, leb};
 ghost use Prim.Native.Nat.{_≤_};
 ghost use Rattle.frames.specs.Hearing.{inRange, marked};
-ghost use Rattle.frames.specs.Size.{expectedOf};
+ghost use Rattle.frames.specs.Size.{wordsSaid, expectedOf};
 ghost use Rattle.frames.specs.Judge.{checksRight, verdict, judged, judgedMaster, judgedSlave};
 
 // What was heard in an event.
@@ -57,9 +57,9 @@ pub fn in_range(h: Hearing) -> bool
 // The words of the reply to a master frame by its F-code, 0 where no reply is expected.
 const SIZES: [usize; 16] = [1, 2, 4, 8, 16, 0, 0, 0, 1, 1, 0, 0, 16, 1, 1, 1];
 
-// What answers a master frame of an F-code; nothing answers what is no F-code.
+// What answers a master frame of an F-code. A number above 15 is no F-code, and has no reply.
 pub fn reply_size(code: u16) -> Expected
-    ensures { λ r. ⌜ r ≡ expectedOf code ⌝ }
+    ensures { λ r. ⌜ wordsSaid r ≡ expectedOf code ⌝ }
 {
     let at = code as usize;
     if 16 <= at {

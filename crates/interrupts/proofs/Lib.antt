@@ -1,3 +1,4 @@
 pub mod Theorems
 pub mod Highest
 pub mod Bits
+pub mod Listed

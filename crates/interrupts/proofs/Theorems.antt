@@ -9,8 +9,8 @@ use Rattle.interrupts.specs.declared.Group.{Group}
 use Rattle.interrupts.specs.Names.{used1}
 use Rattle.interrupts.specs.Group.{group, fresh, settled, raised, statusRead, bit, highest, vectorOf, without, vectorRead}
 use Rattle.interrupts.specs.Group.{statusWritten, released, pendingWritten, maskWritten}
-use Rattle.interrupts.specs.Shape.{Call, raise, writeStatus, writePending, writeMask, readStatus, readVector, writeVector, after}
-use Rattle.interrupts.specs.Shape.{run, Within, Shaped, Clear, among, Kept, LetThrough, Vector, nothing, number}
+use Rattle.interrupts.specs.Calls.{Call, raise, writeStatus, writePending, writeMask, readStatus, readVector, writeVector, groupAfter}
+use Rattle.interrupts.specs.Shape.{run, Within, Shaped, Clear, anyHas, Kept, LetThrough, Vector, nothing, number}
 use Rattle.interrupts.proofs.Bits.{bit-and, bit-or, bit-off, within-none, within-used, within-part, within-join}
 use Rattle.interrupts.proofs.Highest.{Found, found}
 
@@ -27,7 +27,7 @@ vector-highest g = go (highest 16 (g .status)) (found 16 (g .status))
 -- While a group is frozen nothing raised is lost: after any words it is still frozen, status and mask are as they were, and a used
 -- bit is pending exactly if it was pending or one of the words has it.
 pub nothing-lost : (ns : List ℕ) (g : Group) → g .frozen ≡ true → Kept g ns (run (map raise ns) g)
-unfolding run after raised settled among
+unfolding run groupAfter raised settled anyHas
 nothing-lost ns g f =
     let at = group (g .used) (g .pending) (g .mask) (g .status) in
     subst (λ (b : Bool). Kept (at b) ns (run (map raise ns) (at b))) (sym f) (go ns (g .used) (g .pending) (g .mask) (g .status))
@@ -70,8 +70,8 @@ left : {x v y u : ℕ} → Vector x v y → Within x u → Within y u
 left (nothing z) h = h
 left (number j l b t off) h = record { each = λ k e. rw (off k, h .each k e) }
 
-keeps : (c : Call) (g : Group) → Shaped (g .used) g → Shaped (g .used) (after c g)
-unfolding after raised statusRead vectorRead statusWritten released pendingWritten maskWritten settled
+keeps : (c : Call) (g : Group) → Shaped (g .used) g → Shaped (g .used) (groupAfter c g)
+unfolding groupAfter raised statusRead vectorRead statusWritten released pendingWritten maskWritten settled
 keeps (raise n) g h = settles (within-join (h .pending) (within-used n (g .used))) (h .mask) (h .status) (g .frozen)
 keeps (writeStatus v) g h =
     record { used = refl; empty = h .empty; pending = h .pending; mask = h .mask; status = within-part v (h .status) }
@@ -82,9 +82,9 @@ keeps readVector g h = settles (h .pending) (h .mask) (left (vector-highest g) (
 keeps writeVector g h = settles (h .pending) (h .mask) (h .status) false
 
 -- Every call keeps the shape.
-pub shaped-after : {u : ℕ} (c : Call) (g : Group) → Shaped u g → Shaped u (after c g)
+pub shaped-after : {u : ℕ} (c : Call) (g : Group) → Shaped u g → Shaped u (groupAfter c g)
 shaped-after c g h =
-    subst (λ (u : ℕ). Shaped u (after c g)) (h .used) (keeps c g (subst (λ (u : ℕ). Shaped u g) (sym (h .used)) h))
+    subst (λ (u : ℕ). Shaped u (groupAfter c g)) (h .used) (keeps c g (subst (λ (u : ℕ). Shaped u g) (sym (h .used)) h))
 
 -- So it holds after any calls on a fresh group.
 pub shaped-run : (u : ℕ) (cs : List Call) → Shaped u (run cs (fresh u))
@@ -93,7 +93,7 @@ shaped-run u cs = go cs (fresh u) (shaped-fresh u)
   where
     go : (cs : List Call) (g : Group) → Shaped u g → Shaped u (run cs g)
     go [] g h = h
-    go (c ∷ cs) g h = go cs (after c g) (shaped-after c g h)
+    go (c ∷ cs) g h = go cs (groupAfter c g) (shaped-after c g h)
 
 -- A bit that a group does not use stays zero in all three words, whatever is called and written.
 pub unused-zero : (u : ℕ) (cs : List Call) (k : ℕ) → bit u k ≡ false → Clear (run cs (fresh u)) k

@@ -1,3 +1,4 @@
 pub mod Names
 pub mod Group
+pub mod Calls
 pub mod Shape

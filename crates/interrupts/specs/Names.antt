@@ -2,6 +2,7 @@
 -- is set. Assumes nothing.
 use Prim.Native.Nat.{ℕ, zero, suc, _+_, _-_, _^_}
 use mathlib.Core.Bool.{cond}
+use mathlib.Core.List.{List, [], _∷_}
 use lib.Dec.{leb}
 
 -- group 0: EMF ESF DMF DSF AMFX MFC SFC RTI BTI, then DTI7 .. DTI1
@@ -78,6 +79,15 @@ XI1 = 2 ^ 1
 
 abbrev pub XI0 : ℕ
 XI0 = 2 ^ 0
+
+-- the groups as document 01 lists them, from bit 15 down; 0 for a bit that is not used
+abbrev pub names0 : List ℕ
+names0 =
+    EMF ∷ ESF ∷ DMF ∷ DSF ∷ AMFX ∷ MFC ∷ SFC ∷ RTI ∷ BTI ∷ dataTransfer 7 ∷ dataTransfer 6 ∷ dataTransfer 5 ∷ dataTransfer 4
+    ∷ dataTransfer 3 ∷ dataTransfer 2 ∷ dataTransfer 1 ∷ []
+
+abbrev pub names1 : List ℕ
+names1 = TI2 ∷ XI3 ∷ XI2 ∷ XQE ∷ RQE ∷ XQ1C ∷ XQ0C ∷ RQC ∷ FEV ∷ 0 ∷ 0 ∷ 0 ∷ 0 ∷ TI1 ∷ XI1 ∷ XI0 ∷ []
 
 -- the bits that a group uses: all of group 0's, and all of group 1's but 6 to 3
 abbrev pub used0 : ℕ

@@ -1,4 +1,4 @@
--- What the theorems on a group speak of: the calls on it and runs of calls, the shape that every run keeps, and what raising, a
+-- What the theorems on a group speak of: runs of calls, the shape that every run keeps, and what raising, a
 -- release and a reading of the vector leave, bit by bit. Assumes nothing.
 use Prim.Native.Nat.{ℕ, _+_, _<_}
 use mathlib.Core.Path.{_≡_}
@@ -6,27 +6,13 @@ use mathlib.Core.Bool.{Bool, true, false, not, _&&_, _||_}
 use mathlib.Core.List.{List, [], _∷_}
 use lib.Dec.{eqb}
 use Rattle.interrupts.specs.declared.Group.{Group}
-use Rattle.interrupts.specs.Group.{bit, raised, statusRead, vectorRead, statusWritten, released, pendingWritten, maskWritten}
-
--- the calls that leave a group changed; the line is only looked at
-pub data Call : Type 0 where
-  raise writeStatus writePending writeMask : ℕ → Call
-  readStatus readVector writeVector : Call
-
--- the group after a call
-unfoldable pub after : Call → Group → Group
-after (raise bits) g = raised g bits
-after (writeStatus v) g = statusWritten g v
-after (writePending v) g = pendingWritten g v
-after (writeMask v) g = maskWritten g v
-after readStatus g = statusRead g .group
-after readVector g = vectorRead g .group
-after writeVector g = released g
+use Rattle.interrupts.specs.Group.{bit}
+use Rattle.interrupts.specs.Calls.{Call, groupAfter}
 
 -- the group after a list of calls, made in the list's order
 unfoldable pub run : List Call → Group → Group
 run [] g = g
-run (c ∷ cs) g = run cs (after c g)
+run (c ∷ cs) g = run cs (groupAfter c g)
 
 -- x has no bit outside u: where u has none, x has none
 pub record Within (x u : ℕ) : Type 0 where
@@ -47,9 +33,9 @@ pub record Clear (g : Group) (k : ℕ) : Type 0 where
   pub status : bit (g .status) k ≡ false
 
 -- one of the words has bit k
-unfoldable pub among : List ℕ → ℕ → Bool
-among [] k = false
-among (n ∷ ns) k = bit n k || among ns k
+unfoldable pub anyHas : List ℕ → ℕ → Bool
+anyHas [] k = false
+anyHas (n ∷ ns) k = bit n k || anyHas ns k
 
 -- h is g with the words ns kept: still frozen, status and mask as they were, and a used bit is pending exactly if it was pending or
 -- one of the words has it
@@ -57,7 +43,7 @@ pub record Kept (g : Group) (ns : List ℕ) (h : Group) : Type 0 where
   pub frozen : h .frozen ≡ true
   pub status : h .status ≡ g .status
   pub mask : h .mask ≡ g .mask
-  pub pending : (k : ℕ) → bit (g .used) k ≡ true → bit (h .pending) k ≡ (bit (g .pending) k || among ns k)
+  pub pending : (k : ℕ) → bit (g .used) k ≡ true → bit (h .pending) k ≡ (bit (g .pending) k || anyHas ns k)
 
 -- h is g with what was pending let through: not frozen, nothing pending, and a status bit is set exactly if it was set, or was
 -- pending and the mask has it

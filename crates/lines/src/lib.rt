@@ -8,8 +8,9 @@ use frames::Hearing;
 use frames::Kind;
 use model::Lines;
 ghost use mathlib.Core.Path.{_≡_};
-ghost use Rattle.model.specs.Lines.{trusted, observed, arbitration, switchAndSet, acts1, rule1, rule2, rule3, rule4, acts5, rule5};
+ghost use Rattle.model.specs.Lines.{trusted, observed, exempt, acts1, rule1, rule2, rule3, rule4, acts5, rule5};
 ghost use Rattle.model.specs.Lines.{isFrame, isPoor};
+ghost use Rattle.lines.specs.Fields.{switchAndSet};
 
 // LAA says that line A is the trusted one.
 pub fn trusted(l: Lines, a: Hearing, b: Hearing) -> Hearing
@@ -26,8 +27,8 @@ pub fn observed(l: Lines, a: Hearing, b: Hearing) -> Hearing
 }
 
 // F-codes 9, 13 and 14.
-pub fn arbitration(code: u16) -> bool
-    ensures { λ r. ⌜ r ≡ arbitration code ⌝ }
+pub fn exempt(code: u16) -> bool
+    ensures { λ r. ⌜ r ≡ exempt code ⌝ }
 {
     either(either(code == 9, code == 13), code == 14)
 }

@@ -8,12 +8,13 @@ use Rattle.model.specs.Event.{world}
 use Rattle.model.specs.Calls.{Call}
 use Rattle.ports.specs.Host.{Out, out, hostCall}
 use Rattle.meaning.specs.declared.Stepped.{Stepped}
-use Rattle.meaning.specs.Meaning.{setup, state, stateOf, hosted, Ended, ended, endedBy}
+use Rattle.meaning.specs.Meaning.{setup, state, stateAfter, hosted, Ended, ended, endedBy}
 
+-- the promise of a call, with the stage that its line leaves, is the step of the line
 pub hosted-ended : (s : Stepped) (stage : ℕ) (call : Call) (m after : Areas) (n : ℕ) (o : List ℕ) → out after n ≡ hostCall call m
     → let u = setup stage (s .setup .addr) (s .setup .code) (s .setup .sink) in
     ended after o (record { refusal = n; controller = s .controller; setup = u; at = s .at })
-    ≡ endedBy (paper o (s .at)) (hosted call stage (stateOf m s))
+    ≡ endedBy (paper o (s .at)) (hosted call stage (stateAfter m s))
 unfolding hostCall onto
 hosted-ended s stage call m after n o e = ap left e
   where

@@ -10,5 +10,6 @@ use Rattle.meaning.specs.Meaning.{Ended, ended}
 abbrev left : Ended → Stepped
 left x = record { refusal = x .refusal; controller = x .next .world .controller; setup = x .next .setup; at = x .out .at }
 
+-- the promise leaves no choice
 pub one-step : {m k : Areas} {o p : List ℕ} {r s : Stepped} → ended m o r ≡ ended k p s → (r ≡ s) × (m ≡ k) × (o ≡ p)
 one-step e = (ap left e, ap (λ (x : Ended). x .next .world .areas) e, ap (λ (x : Ended). x .out .text) e)

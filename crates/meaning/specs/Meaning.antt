@@ -2,13 +2,12 @@
 -- that does not fit here is refused as a malformed one is. Assumes nothing.
 use Prim.Native.Nat.{ℕ}
 use mathlib.Core.Bool.{Bool, false, cond, _||_}
-use mathlib.Core.List.{List, [], _∷_, _++_}
+use mathlib.Core.List.{List, []}
 use lib.Dec.{eqb}
 use Rattle.digits.specs.declared.Number.{Number}
 use Rattle.digits.specs.declared.Number.the-variants.{Value, Malformed}
 use Rattle.digits.specs.Read.{cut}
 use Rattle.digits.specs.Write.{Paper, paper, onto}
-use Rattle.frames.specs.declared.Hearing.{Hearing}
 use Rattle.model.specs.Layout.{Areas}
 use Rattle.model.specs.Event.{World, world}
 use Rattle.model.specs.Host.{freshController}
@@ -29,10 +28,12 @@ setup stage a code sink = record { stage = stage; addr = a; code = code; sink = 
 unfoldable pub freshSetup : Setup
 freshSetup = setup 0 0 0 false
 
+-- the port that is being described, and the controller with the areas
 pub record State : Type 0 where
   pub setup : Setup
   pub world : World
 
+-- such a state, by its parts
 abbrev pub state : Setup → World → State
 state u s = record { setup = u; world = s }
 
@@ -42,33 +43,36 @@ whole u = eqb (u .stage) 0 || eqb (u .stage) 4
 
 -- ---- what a line does: the number of a refusal or 0, what is printed, and the state after it
 
+-- what a line comes to
 pub record Step : Type 0 where
   pub refusal : ℕ
   pub said : List ℕ
   pub next : State
 
-abbrev pub step : ℕ → List ℕ → State → Step
-step n t s = record { refusal = n; said = t; next = s }
+-- such a step, by its parts
+abbrev pub stepWith : ℕ → List ℕ → State → Step
+stepWith n t s = record { refusal = n; said = t; next = s }
 
 -- 7 TEXT
 abbrev pub misplaced : State → Step
-misplaced s = step 7 [] s
+misplaced s = stepWith 7 [] s
 
 -- a setup line in its place
 abbrev pub describes : Bool → Setup → State → Step
-describes ok u s = cond ok (step 0 [] (state u (s .world))) (misplaced s)
+describes ok u s = cond ok (stepWith 0 [] (state u (s .world))) (misplaced s)
 
 -- a call on the bus, after which only events may come
 abbrev pub answered : Outcome → Setup → Step
-answered o u = step (o .refusal) (replyText (o .reply)) (state (setup 4 (u .addr) (u .code) (u .sink)) (o .world))
+answered o u = stepWith (o .refusal) (replyText (o .reply)) (state (setup 4 (u .addr) (u .code) (u .sink)) (o .world))
 
 -- a call of the host's on ports
 abbrev pub hosted : Call → ℕ → State → Step
 hosted c stage s =
     let u = s .setup in
     let m = s .world .areas in
-    step (portRefusal c m) [] (state (setup stage (u .addr) (u .code) (u .sink)) (world (s .world .controller) (portAreas c m)))
+    stepWith (portRefusal c m) [] (state (setup stage (u .addr) (u .code) (u .sink)) (world (s .world .controller) (portAreas c m)))
 
+-- each line by its kind: setup lines in their order, events and writes where no port is described in part
 unfoldable pub meaning : Line → State → Step
 meaning (addr n) s = describes (eqb (s .setup .stage) 0) (setup 1 n (s .setup .code) (s .setup .sink)) s
 meaning (fcode n) s = describes (eqb (s .setup .stage) 1) (setup 2 (s .setup .addr) n (s .setup .sink)) s
@@ -82,8 +86,9 @@ meaning malformed s = misplaced s
 
 -- ---- a number that was read, in the code
 
-abbrev pub number : Numeral → Number
-number n = cond (n .good) (Value (n .value)) Malformed
+-- the number that a numeral of the code stands for
+abbrev pub numberRead : Numeral → Number
+numberRead n = cond (n .good) (Value (n .value)) Malformed
 
 -- a line, if what it says is well formed
 abbrev pub given : Bool → Line → Line
@@ -95,6 +100,7 @@ worded f n = given (n .good) (f (cut 65535 (n .value)))
 
 -- ---- a step of the code, with the areas and the buffer that it leaves
 
+-- what the code leaves of a line: the number of a refusal or 0, the state, and the buffer
 pub record Ended : Type 0 where
   pub refusal : ℕ
   pub next : State
@@ -105,11 +111,12 @@ abbrev pub begun : Stepped
 begun = record { refusal = 0; controller = freshController; setup = freshSetup; at = 0 }
 
 -- what the next line finds
-abbrev pub stateOf : Areas → Stepped → State
-stateOf m s = state (s .setup) (world (s .controller) m)
+abbrev pub stateAfter : Areas → Stepped → State
+stateAfter m s = state (s .setup) (world (s .controller) m)
 
+-- a result of the code, with the areas and the bytes that it leaves
 abbrev pub ended : Areas → List ℕ → Stepped → Ended
-ended m o r = record { refusal = r .refusal; next = stateOf m r; out = paper o (r .at) }
+ended m o r = record { refusal = r .refusal; next = stateAfter m r; out = paper o (r .at) }
 
 -- what is said is written
 abbrev pub endedBy : Paper → Step → Ended

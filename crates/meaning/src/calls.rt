@@ -5,10 +5,10 @@ ghost use Prim.Native.Nat.{ℕ};
 ghost use Rattle.digits.specs.Write.{paper};
 ghost use Rattle.model.specs.Layout.{Areas};
 ghost use Rattle.areas.specs.Lent.{lent};
-ghost use Rattle.bus.specs.Promise.{told};
-ghost use Rattle.text.specs.Line.{addr, fcode, dir, index as indexLine, framed, quiet, write};
-ghost use Rattle.meaning.specs.Meaning.{begun, setup, whole, misplaced, describes, answered, given, worded, meaning};
-ghost use Rattle.meaning.specs.Meaning.{stateOf, ended, endedBy};
+ghost use Rattle.bus.specs.Promise.{asOutcome};
+ghost use Rattle.text.specs.Line.{addr, fcode, dir, index as indexLine, framed, quiet, written};
+ghost use Rattle.meaning.specs.Meaning.{begun, setup, whole, misplaced, describes, answered, numberRead, given, worded, meaning};
+ghost use Rattle.meaning.specs.Meaning.{stateAfter, ended, endedBy};
 use crate::Numeral;
 use crate::Setup;
 use crate::Stepped;
@@ -18,6 +18,7 @@ use choice::either;
 use controller::settings;
 use digits::read;
 use text::Frame;
+use text::line;
 use text::say;
 
 // A malformed line, or one out of its place.
@@ -70,7 +71,7 @@ fn staged(u: Setup, stage: u16) -> Setup
 
 // A malformed line, or one out of its place.
 pub(crate) fn misplace(s: Stepped) -> Stepped
-    ensures { λ r. ⌜ ((m : Areas) (o : List ℕ) → ended m o r ≡ endedBy (paper o (s .at)) (misplaced (stateOf m s))) ⌝ }
+    ensures { λ r. ⌜ ((m : Areas) (o : List ℕ) → ended m o r ≡ endedBy (paper o (s .at)) (misplaced (stateAfter m s))) ⌝ }
 {
     let mut r = s;
     r.refusal = TEXT;
@@ -79,7 +80,7 @@ pub(crate) fn misplace(s: Stepped) -> Stepped
 
 // A setup line that leaves v, in its place.
 fn describe(ok: bool, s: Stepped, v: Setup) -> Stepped
-    ensures { λ r. ⌜ ((m : Areas) (o : List ℕ) → ended m o r ≡ endedBy (paper o (s .at)) (describes ok v (stateOf m s))) ⌝ }
+    ensures { λ r. ⌜ ((m : Areas) (o : List ℕ) → ended m o r ≡ endedBy (paper o (s .at)) (describes ok v (stateAfter m s))) ⌝ }
 {
     if ok {
         let mut r = s;
@@ -91,7 +92,7 @@ fn describe(ok: bool, s: Stepped, v: Setup) -> Stepped
 }
 
 pub(crate) fn set_addr(s: Stepped, n: Numeral) -> Stepped
-    ensures { λ r. ⌜ ((m : Areas) (o : List ℕ) → ended m o r ≡ endedBy (paper o (s .at)) (meaning (worded addr n) (stateOf m s))) ⌝ }
+    ensures { λ r. ⌜ ((m : Areas) (o : List ℕ) → ended m o r ≡ endedBy (paper o (s .at)) (meaning (worded addr n) (stateAfter m s))) ⌝ }
 {
     let u = s.setup;
     let v = Setup {
@@ -104,7 +105,7 @@ pub(crate) fn set_addr(s: Stepped, n: Numeral) -> Stepped
 }
 
 pub(crate) fn set_code(s: Stepped, n: Numeral) -> Stepped
-    ensures { λ r. ⌜ ((m : Areas) (o : List ℕ) → ended m o r ≡ endedBy (paper o (s .at)) (meaning (worded fcode n) (stateOf m s))) ⌝ }
+    ensures { λ r. ⌜ ((m : Areas) (o : List ℕ) → ended m o r ≡ endedBy (paper o (s .at)) (meaning (worded fcode n) (stateAfter m s))) ⌝ }
 {
     let u = s.setup;
     let v = Setup {
@@ -117,7 +118,7 @@ pub(crate) fn set_code(s: Stepped, n: Numeral) -> Stepped
 }
 
 pub(crate) fn set_dir(s: Stepped, sink: bool) -> Stepped
-    ensures { λ r. ⌜ ((m : Areas) (o : List ℕ) → ended m o r ≡ endedBy (paper o (s .at)) (meaning (dir sink) (stateOf m s))) ⌝ }
+    ensures { λ r. ⌜ ((m : Areas) (o : List ℕ) → ended m o r ≡ endedBy (paper o (s .at)) (meaning (dir sink) (stateAfter m s))) ⌝ }
 {
     let u = s.setup;
     let v = Setup {
@@ -141,7 +142,7 @@ pub(crate) fn open(
     ensures { λ r. ⌜ ((o : List ℕ) →
         ended (lent (index .exit) (ports .exit) (page0 .entry) (page1 .entry)) o r ≡
         endedBy (paper o (s .at))
-        (meaning (worded indexLine n) (stateOf (lent (index .entry) (ports .entry) (page0 .entry) (page1 .entry)) s)))
+        (meaning (worded indexLine n) (stateAfter (lent (index .entry) (ports .entry) (page0 .entry) (page1 .entry)) s)))
         ⌝ }
 {
     let u = s.setup;
@@ -166,7 +167,7 @@ pub(crate) fn open(
     misplace(s)
 }
 
-// The host writes words.
+// The host writes words. An address above its word is malformed.
 pub(crate) fn write(
     index: &[u16],
     ports: &mut [u16],
@@ -179,12 +180,13 @@ pub(crate) fn write(
     ensures { λ r. ⌜ ((o : List ℕ) →
         ended (lent (index .entry) (ports .exit) (page0 .exit) (page1 .exit)) o r ≡
         endedBy (paper o (s .at))
-        (meaning (worded (λ (a : ℕ). write a (now (words .entry))) n)
-        (stateOf (lent (index .entry) (ports .entry) (page0 .entry) (page1 .entry)) s)))
+        (meaning (written (numberRead n) (now (words .entry)))
+        (stateAfter (lent (index .entry) (ports .entry) (page0 .entry) (page1 .entry)) s)))
         ⌝ }
 {
     let u = s.setup;
-    let ok = both(n.good, is_whole(u));
+    let word = both(n.good, n.value <= line::LAST_WORD);
+    let ok = both(word, is_whole(u));
     if ok {
         let no = ports::calls::write(index, ports, page0, page1, read::word(n.value), words);
         let mut r = s;
@@ -198,7 +200,7 @@ pub(crate) fn write(
 // What a call on the bus answered: its reply is printed.
 fn answer(out: &mut [u8], s: Stepped, a: Answered) -> Stepped
     ensures { λ r. ⌜ ((m : Areas) →
-        ended m (now (out .exit)) r ≡ endedBy (paper (now (out .entry)) (s .at)) (answered (told m a) (s .setup)))
+        ended m (now (out .exit)) r ≡ endedBy (paper (now (out .entry)) (s .at)) (answered (asOutcome m a) (s .setup)))
         ⌝ }
 {
     let reply = a.reply;
@@ -225,7 +227,7 @@ pub(crate) fn hear(
     ensures { λ r. ⌜
         ended (lent (index .entry) (ports .exit) (page0 .exit) (page1 .exit)) (now (out .exit)) r ≡
         endedBy (paper (now (out .entry)) (s .at))
-        (meaning (framed f) (stateOf (lent (index .entry) (ports .entry) (page0 .entry) (page1 .entry)) s))
+        (meaning (framed f) (stateAfter (lent (index .entry) (ports .entry) (page0 .entry) (page1 .entry)) s))
         ⌝ }
 {
     let ok = both(f.good, is_whole(s.setup));
@@ -250,7 +252,7 @@ pub(crate) fn quiet(
     ensures { λ r. ⌜
         ended (lent (index .entry) (ports .exit) (page0 .entry) (page1 .entry)) (now (out .exit)) r ≡
         endedBy (paper (now (out .entry)) (s .at))
-        (meaning (given (n .good) (quiet (n .value))) (stateOf (lent (index .entry) (ports .entry) (page0 .entry) (page1 .entry)) s))
+        (meaning (given (n .good) (quiet (n .value))) (stateAfter (lent (index .entry) (ports .entry) (page0 .entry) (page1 .entry)) s))
         ⌝ }
 {
     let ok = both(n.good, is_whole(s.setup));

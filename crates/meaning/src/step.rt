@@ -7,7 +7,7 @@ ghost use Rattle.digits.specs.Write.{paper};
 ghost use Rattle.model.specs.Layout.{Areas};
 ghost use Rattle.areas.specs.Lent.{lent};
 ghost use Rattle.text.specs.Line.{dirOf, writeOf, lineOf};
-ghost use Rattle.meaning.specs.Meaning.{stateOf, number, meaning, ended, endedBy};
+ghost use Rattle.meaning.specs.Meaning.{stateAfter, numberRead, meaning, ended, endedBy};
 use crate::Numeral;
 use crate::Stepped;
 use crate::calls;
@@ -30,7 +30,7 @@ fn at_most(n: usize, limit: usize) -> usize
 
 // A number that was read, with 0 as the value of a malformed one.
 fn numeral(a: Number) -> Numeral
-    ensures { λ r. ⌜ number r ≡ a ⌝ }
+    ensures { λ r. ⌜ numberRead r ≡ a ⌝ }
 {
     match a {
         Number::Value(n) => Numeral {
@@ -46,7 +46,7 @@ fn numeral(a: Number) -> Numeral
 
 fn dir_line(s: Stepped, v: &[u8]) -> Stepped
     ensures { λ r. ⌜ ((m : Areas) (o : List ℕ) →
-        ended m o r ≡ endedBy (paper o (s .at)) (meaning (dirOf (now (v .entry))) (stateOf m s)))
+        ended m o r ≡ endedBy (paper o (s .at)) (meaning (dirOf (now (v .entry))) (stateAfter m s)))
         ⌝ }
 {
     let sink = cut::same(v, b"sink");
@@ -71,7 +71,7 @@ fn write_line(
     ensures { λ r. ⌜ ((o : List ℕ) →
         ended (lent (index .entry) (ports .exit) (page0 .exit) (page1 .exit)) o r ≡
         endedBy (paper o (s .at))
-        (meaning (writeOf (now (v .entry))) (stateOf (lent (index .entry) (ports .entry) (page0 .entry) (page1 .entry)) s)))
+        (meaning (writeOf (now (v .entry))) (stateAfter (lent (index .entry) (ports .entry) (page0 .entry) (page1 .entry)) s)))
         ⌝ }
 {
     let mut words = [0u16; 17];
@@ -98,7 +98,7 @@ pub fn step(
     ensures { λ r. ⌜
         ended (lent (index .exit) (ports .exit) (page0 .exit) (page1 .exit)) (now (out .exit)) r ≡
         endedBy (paper (now (out .entry)) (s .at))
-        (meaning (lineOf (now (t .entry))) (stateOf (lent (index .entry) (ports .entry) (page0 .entry) (page1 .entry)) s))
+        (meaning (lineOf (now (t .entry))) (stateAfter (lent (index .entry) (ports .entry) (page0 .entry) (page1 .entry)) s))
         ⌝ }
 {
     let key = line::key_of(cut::before(t, b'='));

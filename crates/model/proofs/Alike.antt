@@ -2,21 +2,25 @@
 use Prim.Native.Nat.{ℕ, _≤_, _<_}
 use mathlib.Core.Path.{_≡_, refl, sym, _∙_, ap}
 use mathlib.Core.Logic.{_⊎_, inl, inr}
-use mathlib.Core.Bool.{Bool, true, false, not, _&&_, _||_}
+use mathlib.Core.Bool.{Bool, true, false, cond, not, _&&_, _||_, true≢false}
+use mathlib.Core.List.{List, [], _∷_}
 use mathlib.Core.Option.{Option, none, some}
 use native.Mathlib.Omega.{arith}
 use lib.Dec.{eqb, ltb}
-use borrow.Author.Tests.{eqb-true, eqb-false, eq-eqb, not-false, le-ltb}
-use Rattle.model.specs.Layout.{Areas, entry, portAt, flagsOf}
-use Rattle.model.specs.Ports.{addressOf, wellFormed, View, viewOf, view}
-use Rattle.model.specs.Shape.{Shape, Leads}
-use Rattle.model.specs.Event.{World}
-use Rattle.model.specs.Calls.{Call, hear, quiet, openPort, closePort, writePort, readPort, setting, needed, entryAbove, illFormed}
-use Rattle.model.specs.Calls.{badArea, outOfRange, badEntry, noPort, isTaken, badWords, wrongSide, wrongSize, refusal}
+use borrow.Author.Tests.{eqb-true, eqb-false, eq-eqb, ne-eqb, not-false, le-ltb}
+use Rattle.frames.specs.Hearing.{inRange}
+use Rattle.model.specs.Layout.{Areas, areasFit, entry, portAt, flagsOf}
+use Rattle.model.specs.Ports.{addressOf, wellFormed, Standing, standingOf, standing}
+use Rattle.model.specs.Event.{World, heardBy}
+use Rattle.model.specs.Quiet.{dueWithin}
+use Rattle.model.specs.Calls.{Call, hear, quiet, openPort, closePort, writePort, readPort, setting, outOfRange, noPort, isTaken}
+use Rattle.model.specs.Calls.{wrongSide, wrongSize, TestName, refusalNumber, Test, entryAbove, illFormed, sideTest, sizeTest}
+use Rattle.model.specs.Calls.{openOut, neededFor, wordOfHeard, atPort, onBus, tests, firstOf, refusal, Silent}
+use Rattle.model.proofs.Shape.{Shape, Leads}
 use Rattle.model.proofs.Formed.{formed-used}
-use Rattle.model.proofs.Refused.{Passed, accepted, accepts}
+use Rattle.model.proofs.Refused.{holds, accepted, accepts}
 use Rattle.model.proofs.Accepted.{neither, open-range, open-at}
-use Rattle.model.proofs.Same.{Alike, same-entry, Same}
+use Rattle.model.proofs.Same.{Alike, same-entry}
 
 -- ---- no damaged entry or port words are met in a shape
 
@@ -40,44 +44,74 @@ no-ill m s (some a) = go (s .entries a)
         and-none true = refl
         and-none false = refl
 
--- so no call finds an area of another length, a damaged entry or damaged port words there
+-- so a bus event, and a call that needs a port and finds one, are accepted there, if their other tests do not hold
+module _ (m : Areas) (shape : Shape m) where
+  fits-in : not (areasFit m) ≡ false
+  fits-in = rw (shape .fits)
+
+  pub bus-in : (out : Bool) (w : Option ℕ) → out ≡ false → Silent (onBus m out w)
+  bus-in out w e = (fits-in, (e, (no-above m shape (neededFor w), (no-ill m shape (neededFor w), tt))))
+
+  pub port-in : (a : ℕ) (more : List Test) → ltb 4095 a ≡ false → eqb (entry m a) 0 ≡ false → Silent more → Silent (atPort m a more)
+  port-in a more e there s = (fits-in, (e, (no-above m shape (some a), (there, (no-ill m shape (some a), s)))))
+
+  -- the number of any other, as its other tests give it
+  pub bus-first : (out : Bool) (w : Option ℕ) → firstOf (onBus m out w) ≡ cond out 2 0
+  bus-first out w = rw (shape .fits, no-above m shape (neededFor w), no-ill m shape (neededFor w))
+
+  pub port-first : (a : ℕ) (more : List Test)
+      → firstOf (atPort m a more) ≡ cond (ltb 4095 a) 2 (cond (eqb (entry m a) 0) 3 (firstOf more))
+  port-first a more = rw (shape .fits, no-above m shape (some a), no-ill m shape (some a))
+
+-- no test with the number 6 holds
+abbrev Whole : List Test → Type 0
+Whole [] = Unit
+Whole (t ∷ ts) = (cond (eqb (refusalNumber (t .name)) 6) (t .given) false ≡ false) × Whole ts
+
+no-six : (ts : List Test) → Whole ts → firstOf ts ≡ 6 → ⊥
+no-six [] w e = omega arith
+no-six (t ∷ ts) w e = go (t .given) refl (no-six ts (w .1)) e
+  where
+    go : (b : Bool) → t .given ≡ b → (firstOf ts ≡ 6 → ⊥) → cond b (refusalNumber (t .name)) (firstOf ts) ≡ 6 → ⊥
+    go true eb n ec = true≢false (sym eb ∙ (rw (eq-eqb (refusalNumber (t .name)) 6 ec) at (w .0)))
+    go false eb n ec = n ec
+
+-- so no call is refused with 6 there
 module _ (s : World) (shape : Shape (s .areas)) where
-  pub fits-in : (c : Call) → badArea c s ≡ false
-  fits-in (hear a b) = rw (shape .fits)
-  fits-in (quiet n) = rw (shape .fits)
-  fits-in (openPort a p code sink i) = rw (shape .fits)
-  fits-in (closePort a) = rw (shape .fits)
-  fits-in (writePort a ws) = rw (shape .fits)
-  fits-in (readPort a) = rw (shape .fits)
-  fits-in (setting t) = refl
+  bus-whole : (out : Bool) (w : Option ℕ) → Whole (onBus (s .areas) out w)
+  bus-whole out w = (refl, (refl, (no-above _ shape (neededFor w), (no-ill _ shape (neededFor w), tt))))
 
-  pub entry-in : (c : Call) → badEntry c s ≡ false
-  entry-in c = no-above (s .areas) shape (needed c s)
+  port-whole : (a : ℕ) (more : List Test) → Whole more → Whole (atPort (s .areas) a more)
+  port-whole a more w = (refl, (refl, (no-above _ shape (some a), (refl, (no-ill _ shape (some a), w)))))
 
-  pub formed-in : (c : Call) → badWords c s ≡ false
-  formed-in (hear a b) = no-ill (s .areas) shape (needed (hear a b) s)
-  formed-in (quiet n) = no-ill (s .areas) shape (needed (quiet n) s)
-  formed-in (openPort a p code sink i) = refl
-  formed-in (closePort a) = no-ill (s .areas) shape (some a)
-  formed-in (writePort a ws) = no-ill (s .areas) shape (some a)
-  formed-in (readPort a) = no-ill (s .areas) shape (some a)
-  formed-in (setting t) = refl
+  whole : (c : Call) → Whole (tests c s)
+  whole (hear a b) = bus-whole (not (inRange a) || not (inRange b)) (wordOfHeard (heardBy (s .controller) a b))
+  whole (quiet n) = bus-whole (ltb 65535 n) (dueWithin n s)
+  whole (openPort a p code sink i) = (refl, (refl, (no-above _ shape (some a), (refl, tt))))
+  whole (closePort a) = port-whole a [] tt
+  whole (writePort a ws) = port-whole a (sideTest (s .areas) a ∷ sizeTest (s .areas) a ws ∷ []) (refl, (refl, tt))
+  whole (readPort a) = port-whole a [] tt
+  whole (setting t) = (refl, tt)
+
+  pub undamaged : (c : Call) → refusal c s ≡ 6 → ⊥
+  unfolding refusal
+  undamaged c e = no-six (tests c s) (whole c) e
 
 -- ---- what one of two alike worlds accepts the other accepts
 
-at-entry : (m : Areas) (a : ℕ) → Shape m → (entry m a ≡ 0 → ⊥) → view m a ≡ some (viewOf m (entry m a))
+pub at-entry : (m : Areas) (a : ℕ) → Shape m → (entry m a ≡ 0 → ⊥) → standing m a ≡ some (standingOf m (entry m a))
 at-entry m a s n = go (s .entries a)
   where
-    go : (entry m a ≡ 0) ⊎ Leads m a → view m a ≡ some (viewOf m (entry m a))
+    go : (entry m a ≡ 0) ⊎ Leads m a → standing m a ≡ some (standingOf m (entry m a))
     go (inl e) = absurd (n e)
     go (inr l) = open-at m a n (l .small) (l .formed)
 
 module _ (m n : Areas) (k : Alike m n) where
-  same-seen : (a : ℕ) → (entry m a ≡ 0 → ⊥) → viewOf m (entry m a) ≡ viewOf n (entry n a)
+  same-seen : (a : ℕ) → (entry m a ≡ 0 → ⊥) → standingOf m (entry m a) ≡ standingOf n (entry n a)
   same-seen a z =
       let p = at-entry m a (k .shape) z in
       let q = at-entry n a (k .shape′) (λ e. z (same-entry m n k a ∙ e)) in
-      let r : some (viewOf m (entry m a)) ≡ some (viewOf n (entry n a)) = sym p ∙ k .views a ∙ q in
+      let r : some (standingOf m (entry m a)) ≡ some (standingOf n (entry n a)) = sym p ∙ k .stands a ∙ q in
       cc
 
   -- a port that is free in one is free in the other
@@ -96,7 +130,7 @@ module _ (m n : Areas) (k : Alike m n) where
               by (inr f) = formed-used a (portAt m p) (rw used at (f .formed)) z
 
 -- a call that finds its port and the areas as they were is accepted again
-module _ (s u : World) (k : Same s u) where
+module _ (s u : World) (k : Alike (s .areas) (u .areas)) where
   abbrev M : Areas
   M = s .areas
 
@@ -104,10 +138,10 @@ module _ (s u : World) (k : Same s u) where
   N = u .areas
 
   entry-same : (a : ℕ) → eqb (entry M a) 0 ≡ eqb (entry N a) 0
-  entry-same a = ap (λ (n : ℕ). eqb n 0) (same-entry M N (k .areas) a)
+  entry-same a = ap (λ (n : ℕ). eqb n 0) (same-entry M N k a)
 
   shape : Shape N
-  shape = k .areas .shape′
+  shape = k .shape′
 
   port : (a : ℕ) → eqb (entry M a) 0 ≡ false → eqb (entry N a) 0 ≡ false
   port a e = sym (entry-same a) ∙ e
@@ -116,74 +150,82 @@ module _ (s u : World) (k : Same s u) where
       → (not (eqb (entry N a) 0) || not (eqb (portAt N p .flags) 0)) ≡ false
   free-same a p l h e =
       let t = neither _ _ e in
-      let z = same-free M N (k .areas) p l h (eqb-true _ _ (not-false _ (t .1))) in
+      let z = same-free M N k p l h (eqb-true _ _ (not-false _ (t .1))) in
       let f : eqb (entry M a) 0 ≡ true = not-false _ (t .0) in
       rw (sym (entry-same a) ∙ f, eq-eqb (portAt N p .flags) 0 z)
 
   -- the source and the size that a write finds
   module _ (a : ℕ) (there : eqb (entry M a) 0 ≡ false) where
-    seen-same : viewOf M (entry M a) ≡ viewOf N (entry N a)
-    seen-same = same-seen M N (k .areas) a (eqb-false _ 0 there)
+    seen-same : standingOf M (entry M a) ≡ standingOf N (entry N a)
+    seen-same = same-seen M N k a (eqb-false _ 0 there)
 
     side-same : flagsOf (portAt M (entry M a) .flags) .sink ≡ flagsOf (portAt N (entry N a) .flags) .sink
-    unfolding viewOf
-    side-same = ap (λ (v : View). v .sink) seen-same
+    unfolding standingOf
+    side-same = ap (λ (v : Standing). v .sink) seen-same
 
     word-same : portAt M (entry M a) .master ≡ portAt N (entry N a) .master
-    unfolding viewOf
-    word-same = ap (λ (v : View). v .word) seen-same
+    unfolding standingOf
+    word-same = ap (λ (v : Standing). v .word) seen-same
 
-  -- each test that asks for a port, in one world and in the other
-
-  port-same : (c : Call) → noPort c s ≡ false → noPort c u ≡ false
-  port-same (hear a b) e = refl
-  port-same (quiet n) e = refl
-  port-same (openPort a p code sink i) e = refl
-  port-same (closePort a) e = port a e
-  port-same (writePort a ws) e = port a e
-  port-same (readPort a) e = port a e
-  port-same (setting t) e = refl
-
-  taken-same : (c : Call) → outOfRange c ≡ false → isTaken c s ≡ false → isTaken c u ≡ false
-  taken-same (hear a b) r e = refl
-  taken-same (quiet n) r e = refl
-  taken-same (openPort a p code sink i) r e = let o = open-range a p code i r in free-same a p (o .some-port) (o .port) e
-  taken-same (closePort a) r e = refl
-  taken-same (writePort a ws) r e = refl
-  taken-same (readPort a) r e = refl
-  taken-same (setting t) r e = refl
-
-  wrong-side-same : (c : Call) → noPort c s ≡ false → wrongSide c s ≡ false → wrongSide c u ≡ false
-  wrong-side-same (hear a b) there e = refl
-  wrong-side-same (quiet n) there e = refl
-  wrong-side-same (openPort a p code sink i) there e = refl
-  wrong-side-same (closePort a) there e = refl
-  wrong-side-same (writePort a ws) there e = sym (side-same a there) ∙ e
-  wrong-side-same (readPort a) there e = refl
-  wrong-side-same (setting t) there e = refl
-
-  wrong-size-same : (c : Call) → noPort c s ≡ false → wrongSize c s ≡ false → wrongSize c u ≡ false
-  wrong-size-same (hear a b) there e = refl
-  wrong-size-same (quiet n) there e = refl
-  wrong-size-same (openPort a p code sink i) there e = refl
-  wrong-size-same (closePort a) there e = refl
-  wrong-size-same (writePort a ws) there e = rw (word-same a there) at e
-  wrong-size-same (readPort a) there e = refl
-  wrong-size-same (setting t) there e = refl
-
-  passed-same : (c : Call) → Passed c s → Passed c u
-  passed-same c p =
-      record {
-        fits = fits-in u shape c;
-        range = p .range;
-        entry = entry-in u shape c;
-        port = port-same c (p .port);
-        free = taken-same c (p .range) (p .free);
-        formed = formed-in u shape c;
-        side = wrong-side-same c (p .port) (p .side);
-        size = wrong-size-same c (p .port) (p .size);
-      }
+  -- each call's tests, in one world and in the other
+  silent-same : (c : Call) → ((k : TestName) → holds k (tests c s) ≡ false) → Silent (tests c u)
+  silent-same (hear a b) t = bus-in N shape _ (wordOfHeard (heardBy (u .controller) a b)) (t outOfRange)
+  silent-same (quiet n) t = bus-in N shape _ (dueWithin n u) (t outOfRange)
+  silent-same (openPort a p code sink i) t =
+      let o = open-range a p code i (t outOfRange) in
+      (rw (shape .fits), (t outOfRange, (no-above N shape (some a), (free-same a p (o .some-port) (o .port) (t isTaken), tt))))
+  silent-same (closePort a) t = port-in N shape a [] (t outOfRange) (port a (t noPort)) tt
+  silent-same (writePort a ws) t =
+      port-in N shape a (sideTest N a ∷ sizeTest N a ws ∷ []) (t outOfRange) (port a (t noPort))
+      (sym (side-same a (t noPort)) ∙ t wrongSide, (rw (word-same a (t noPort)) at (t wrongSize), tt))
+  silent-same (readPort a) t = port-in N shape a [] (t outOfRange) (port a (t noPort)) tt
+  silent-same (setting x) t = (t outOfRange, tt)
 
   -- what one of two alike worlds accepts the other accepts
   pub accepts-same : (c : Call) → refusal c s ≡ 0 → refusal c u ≡ 0
-  accepts-same c e = accepts c u (passed-same c (accepted c s e))
+  accepts-same c e = accepts c u (silent-same c (accepted c s e))
+
+  -- ---- and what one of them refuses the other refuses, with the same number
+
+  back : Alike N M
+  back = record { shape = k .shape′; shape′ = k .shape; stands = λ a. sym (k .stands a) }
+
+  flags-same : (p : ℕ) → 0 < p → p ≤ 255 → eqb (portAt M p .flags) 0 ≡ eqb (portAt N p .flags) 0
+  flags-same p l h = go (eqb (portAt M p .flags) 0) refl
+    where
+      go : (b : Bool) → eqb (portAt M p .flags) 0 ≡ b → b ≡ eqb (portAt N p .flags) 0
+      go true e = sym (eq-eqb _ 0 (same-free M N k p l h (eqb-true _ _ e)))
+      go false e = sym (ne-eqb _ 0 (λ z. eqb-false _ 0 e (same-free N M back p l h z)))
+
+  bus-same : (out : Bool) (v w : Option ℕ) → firstOf (onBus M out v) ≡ firstOf (onBus N out w)
+  bus-same out v w = bus-first M (k .shape) out v ∙ sym (bus-first N shape out w)
+
+  port-same : (a : ℕ) (more less : List Test) → (eqb (entry M a) 0 ≡ false → firstOf more ≡ firstOf less)
+      → firstOf (atPort M a more) ≡ firstOf (atPort N a less)
+  port-same a more less same =
+      rw (port-first M (k .shape) a more, port-first N shape a less, ← (entry-same a)) (go (ltb 4095 a) (eqb (entry M a) 0) refl)
+    where
+      go : (r b : Bool) → eqb (entry M a) 0 ≡ b → cond r 2 (cond b 3 (firstOf more)) ≡ cond r 2 (cond b 3 (firstOf less))
+      go true b e = refl
+      go false true e = refl
+      go false false e = same e
+
+  -- Two worlds whose addresses show the same answer every call with the same number.
+  pub refuses-same : (c : Call) → refusal c s ≡ refusal c u
+  unfolding refusal
+  refuses-same (hear a b) =
+      bus-same (not (inRange a) || not (inRange b)) (wordOfHeard (heardBy (s .controller) a b)) (wordOfHeard (heardBy (u .controller) a b))
+  refuses-same (quiet n) = bus-same (ltb 65535 n) (dueWithin n s) (dueWithin n u)
+  refuses-same (openPort a p code sink i) =
+      rw (k .shape .fits, shape .fits, no-above M (k .shape) (some a), no-above N shape (some a), entry-same a) (go (openOut a p code i) refl)
+    where
+      go : (r : Bool) → openOut a p code i ≡ r
+          → _≡_ {A = ℕ} (cond r 2 (cond (not (eqb (entry N a) 0) || not (eqb (portAt M p .flags) 0)) 4 0))
+          (cond r 2 (cond (not (eqb (entry N a) 0) || not (eqb (portAt N p .flags) 0)) 4 0))
+      go true e = refl
+      go false e = let o = open-range a p code i e in rw (flags-same p (o .some-port) (o .port))
+  refuses-same (closePort a) = port-same a [] [] (λ there. refl)
+  refuses-same (writePort a ws) =
+      port-same a (sideTest M a ∷ sizeTest M a ws ∷ []) (sideTest N a ∷ sizeTest N a ws ∷ []) (λ there. rw (side-same a there, word-same a there))
+  refuses-same (readPort a) = port-same a [] [] (λ there. refl)
+  refuses-same (setting t) = refl

@@ -17,9 +17,9 @@ abbrev digit : Bool → ℕ
 digit true = 1
 digit false = 0
 
-abbrev number : List Bool → ℕ
-number [] = 0
-number (b ∷ bs) = digit b + 2 * number bs
+abbrev binary : List Bool → ℕ
+binary [] = 0
+binary (b ∷ bs) = digit b + 2 * binary bs
 
 digit-at : (b : Bool) (n : ℕ) → bitAt (digit b + 2 * n) 1 ≡ b
 unfolding bitAt
@@ -34,16 +34,16 @@ digits-off b n i = rw (← (one-add i), ← (shr-shr (digit b + 2 * n) 1 i), off
     off false = omega arith
 
 -- a digit of the number
-number-at : (bs : List Bool) (i : ℕ) → bitAt (number bs) (2 ^ i) ≡ getD bs i false
+number-at : (bs : List Bool) (i : ℕ) → bitAt (binary bs) (2 ^ i) ≡ getD bs i false
 unfolding bitAt
 number-at [] i = rw (zero-div (2 ^ i))
-number-at (b ∷ bs) zero = digit-at b (number bs)
-number-at (b ∷ bs) (suc i) = rw (digits-off b (number bs) i) (number-at bs i)
+number-at (b ∷ bs) zero = digit-at b (binary bs)
+number-at (b ∷ bs) (suc i) = rw (digits-off b (binary bs) i) (number-at bs i)
 
 -- it has no more digits
-number-end : (bs : List Bool) → number bs / 2 ^ length bs ≡ 0
+number-end : (bs : List Bool) → binary bs / 2 ^ length bs ≡ 0
 number-end [] = refl
-number-end (b ∷ bs) = digits-off b (number bs) (length bs) ∙ number-end bs
+number-end (b ∷ bs) = digits-off b (binary bs) (length bs) ∙ number-end bs
 
 abbrev digits : Flags → List Bool
 digits f =
@@ -53,7 +53,7 @@ worth-digit : (b : Bool) (k : ℕ) → worth b k ≡ digit b * k
 worth-digit true k = omega arith
 worth-digit false k = omega arith
 
-word-number : (f : Flags) → wordOf f ≡ number (digits f)
+word-number : (f : Flags) → wordOf f ≡ binary (digits f)
 unfolding wordOf
 word-number f = simp worth-digit (omega arith)
 

@@ -15,12 +15,12 @@ use lib.Seq.{getD-set-same, getD-set-other}
 use Rattle.model.specs.declared.Words.{Words}
 use Rattle.model.specs.Layout.{Areas, areas, stride, areasFit, entry, place, withWords, portAt, flagsOf, partOf, withPart}
 use Rattle.model.specs.declared.Flags.{Flags}
-use Rattle.model.specs.Ports.{validPage, codeOf, addressOf, sizeOf, wellFormed, View, viewOf, view}
-use Rattle.model.specs.Shape.{Leads, Shape}
+use Rattle.model.specs.Ports.{validPage, codeOf, addressOf, sizeOf, wellFormed, Standing, standingOf, standing}
+use Rattle.model.proofs.Shape.{Leads, Shape}
 use Rattle.model.proofs.PortWords.{length-with, words-same, words-other}
 use Rattle.model.proofs.Pages.{length-part, part-other}
 use Rattle.model.proofs.Formed.{lengths, formed, size-small}
-use Rattle.model.proofs.Views.{Stands, view-none, view-port, look}
+use Rattle.model.proofs.Standings.{Stands, standing-none, standing-port, look}
 
 -- ---- one area, before and after
 
@@ -65,7 +65,7 @@ abbrev pub After : ℕ → ℕ → ℕ → Words → Type 0
 After a p e w = ((e ≡ 0) × (w .flags ≡ 0)) ⊎ ((e ≡ p) × (wellFormed a w ≡ true))
 
 -- the entry of address a becomes e, and the words of its own port p become w
-pub record Change (m n : Areas) (a p e : ℕ) (w : Words) : Type 0 where
+pub record Changed (m n : Areas) (a p e : ℕ) (w : Words) : Type 0 where
   pub own : Own m a p
   pub fits : areasFit n ≡ true
   pub index : EntrySet (m .index) (n .index) a e
@@ -76,7 +76,7 @@ pub record Change (m n : Areas) (a p e : ℕ) (w : Words) : Type 0 where
   pub after : After a p e w
 
 pub changed : {m : Areas} {a p e : ℕ} {w : Words} {i x y : List ℕ} → Shape m → Own m a p → EntrySet (m .index) i a e
-    → PartSet p (m .page0) x → PartSet p (m .page1) y → After a p e w → Change m (areas i (withWords (m .ports) p w) x y) a p e w
+    → PartSet p (m .page0) x → PartSet p (m .page1) y → After a p e w → Changed m (areas i (withWords (m .ports) p w) x y) a p e w
 unfolding areasFit
 changed {m} {p = p} {w = w} s own index page0 page1 after =
     let inside : place p + stride ≤ length (m .ports) = omega (arith, own .small, lengths m (s .fits) .ports) in
@@ -91,7 +91,7 @@ changed {m} {p = p} {w = w} s own index page0 page1 after =
       after = after;
     }
 
-module _ {m n : Areas} {a p e : ℕ} {w : Words} (c : Change m n a p e w) where
+module _ {m n : Areas} {a p e : ℕ} {w : Words} (c : Changed m n a p e w) where
   leads-here : e ≡ p → wellFormed a w ≡ true → Leads n a
   leads-here ep f =
       let there : entry n a ≡ p = c .index .here ∙ ep in
@@ -108,9 +108,9 @@ module _ {m n : Areas} {a p e : ℕ} {w : Words} (c : Change m n a p e w) where
         formed = rw (c .index .other b ne, c .words-other (entry m b) (apart b ne l)) (l .formed);
       }
 
-  view-of-other : (q : ℕ) → q ≢ p → viewOf n q ≡ viewOf m q
-  unfolding viewOf
-  view-of-other q ne =
+  standing-of-other : (q : ℕ) → q ≢ p → standingOf n q ≡ standingOf m q
+  unfolding standingOf
+  standing-of-other q ne =
       let code = codeOf (portAt m q .master) in
       rw (c .words-other q ne, part (flagsOf (portAt m q .flags)) (sizeOf code) (size-small code))
     where
@@ -153,22 +153,22 @@ module _ {m n : Areas} {a p e : ℕ} {w : Words} (c : Change m n a p e w) where
     pub shape-change : Shape n
     shape-change = record { fits = c .fits; entries = entries; ports = ports }
 
-    pub view-other : (b : ℕ) → b ≢ a → view n b ≡ view m b
-    view-other b ne =
-        ⊎-elim (λ z. view-none n b (c .index .other b ne ∙ z) ∙ sym (view-none m b z))
+    pub standing-other : (b : ℕ) → b ≢ a → standing n b ≡ standing m b
+    standing-other b ne =
+        ⊎-elim (λ z. standing-none n b (c .index .other b ne ∙ z) ∙ sym (standing-none m b z))
         (λ st.
         let st′ : Stands n b = record { positive = rw (c .index .other b ne) (st .positive); leads = leads-other b ne (st .leads) } in
-        view-port n b st′ ∙ rw (c .index .other b ne, view-of-other (entry m b) (apart b ne (st .leads))) (sym (view-port m b st)))
+        standing-port n b st′ ∙ rw (c .index .other b ne, standing-of-other (entry m b) (apart b ne (st .leads))) (sym (standing-port m b st)))
         (look m b s)
 
     -- what a shows is all that changes
-    pub view-change : {v : Option View} → view n a ≡ v → (b : ℕ) → view n b ≡ cond (eqb a b) v (view m b)
-    view-change here b =
+    pub standing-change : {v : Option Standing} → standing n a ≡ v → (b : ℕ) → standing n b ≡ cond (eqb a b) v (standing m b)
+    standing-change here b =
         dite (ℕ-discrete b a) (λ same. rw (same, eq-eqb a a refl) here)
-        (λ ne. rw (ne-eqb a b (λ same. ne (sym same))) (view-other b ne))
+        (λ ne. rw (ne-eqb a b (λ same. ne (sym same))) (standing-other b ne))
 
   -- where a has the port p, it shows p
-  pub view-here : 0 < p → e ≡ p → wellFormed a w ≡ true → view n a ≡ some (viewOf n p)
-  view-here h ep f =
+  pub standing-here : 0 < p → e ≡ p → wellFormed a w ≡ true → standing n a ≡ some (standingOf n p)
+  standing-here h ep f =
       let there : entry n a ≡ p = c .index .here ∙ ep in
-      rw there at (view-port n a (record { positive = rw there h; leads = leads-here ep f }))
+      rw there at (standing-port n a (record { positive = rw there h; leads = leads-here ep f }))

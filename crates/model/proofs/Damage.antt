@@ -23,41 +23,43 @@ use Rattle.model.specs.declared.Words.{Words}
 use Rattle.model.specs.declared.Faults.{Faults}
 use Rattle.model.specs.declared.Heard.{Heard}
 use Rattle.model.specs.declared.Heard.the-variants.{Nothing, Unsound, Master, Reply, Stray}
-use Rattle.model.specs.Layout.{Areas, portAt, wordsAt, withWords, flagsOf}
-use Rattle.model.specs.Ports.{codeOf, hasPorts, View, view, Effect, untouched, mark, faulty, markedWords, apply}
-use Rattle.model.specs.Shape.{Shape, Valid, marking, viewAfter}
-use Rattle.model.specs.Event.{World, asHeard, asMaster, heard, heardBy, sinkFor, taken, effectOf, answerTo, answerOf, exchangeAfter}
-use Rattle.model.specs.Event.{hearController, hearEffect, hearAnswer}
+use Rattle.model.specs.Layout.{Areas, areasFit, portAt, wordsAt, withWords, flagsOf}
+use Rattle.model.specs.Ports.{codeOf, Standing, standing, viewed, view, Effect, untouched, mark, faulty, markedWords, apply}
+use Rattle.model.specs.Event.{World, asHeard, asMaster, heard, heardBy, sinkFor, taken, answerTo}
 use Rattle.model.specs.Quiet.{times, due, missed, effectLater, ticks, tick, tickEffect, tickController}
-use Rattle.model.specs.Calls.{Call, hear, quiet, openPort, closePort, writePort, readPort, setting, needed, refusal, effect, step}
-use Rattle.model.specs.Calls.{answer}
+use Rattle.model.specs.Calls.{Call, hear, quiet, openPort, closePort, writePort, readPort, setting, outOfRange, wordOfHeard}
+use Rattle.model.specs.Calls.{refusal, effect, step, answer}
 use Rattle.model.specs.Past.{after, Typed, Accepted, onTrusted, firstWord, isSound, awaited}
-use Rattle.model.specs.Damage.{harmless, Damaged, Damage, AllAlike, SoundMaster, Gentle, still, marks, OnlyStatus}
+use Rattle.model.specs.Taken.{Gentle, still, marks, OnlyStatus}
+use Rattle.model.specs.Damage.{harmless, Damaged, Damage, SoundMaster}
+use Rattle.model.specs.Differ.{Unseen}
+use Rattle.model.proofs.Shape.{Shape, Valid, marking, standingAfter}
+use Rattle.model.proofs.Tables.{effectOf, answerOf, exchangeAfter, hear-controller, hear-effect, hear-answer}
 use Rattle.model.proofs.PortWords.{words-same, words-other}
 use Rattle.model.proofs.Bits.{flags-of-word}
-use Rattle.model.proofs.Shape.{at-here, shape-apply, view-apply}
+use Rattle.model.proofs.ShapeKept.{at-here, shape-apply, standing-apply}
 use Rattle.model.proofs.Formed.{lengths}
 use Rattle.model.proofs.Refused.{accepted, accepts}
 use Rattle.model.proofs.Waits.{waitNow, Live, waits-now}
 use Rattle.model.proofs.Taken.{valid-heard}
 use Rattle.model.proofs.Holds.{later-valid}
 use Rattle.model.proofs.Invariant.{one-of, ToldBy, chosen-heard}
-use Rattle.model.proofs.Told.{told}
-use Rattle.model.proofs.Alike.{fits-in, entry-in, formed-in, accepts-same}
-use Rattle.model.proofs.Same.{Alike, same-answer, same-exchange, Same, either-line, same-step}
+use Rattle.model.proofs.Told.{past-told}
+use Rattle.model.proofs.Alike.{bus-in}
+use Rattle.model.proofs.Same.{Alike, same-answer, same-exchange, Same, either-line}
 
 -- ---- effects that change status bits alone
 
-gentle-late : (m : Areas) (o : Option ℕ) → Gentle (effectLater m o)
+pub gentle-late : (m : Areas) (o : Option ℕ) → Gentle (effectLater m o)
 gentle-late m none = still
 gentle-late m (some w) = go (sinkFor m w)
   where
-    go : (o : Option View) → Gentle (missed o)
+    go : (o : Option Standing) → Gentle (missed o)
     go none = still
     go (some v) = marks
 
 -- a harmless hearing changes status bits alone
-gentle-heard : (m : Areas) (t : Times) (h : Hearing) (k : Kind) (x : Exchange) → Live x t → harmless k (waitNow x t 0) h ≡ true
+pub gentle-heard : (m : Areas) (t : Times) (h : Hearing) (k : Kind) (x : Exchange) → Live x t → harmless k (waitNow x t 0) h ≡ true
     → Gentle (effectOf m (asHeard k x h) h)
 gentle-heard m t h Silence x l e = still
 gentle-heard m t h Noise x l e = still
@@ -71,7 +73,7 @@ gentle-heard m t h SlaveFrame Done l e = still
 gentle-heard m t h SlaveFrame (Waiting w) l e =
     go (sinkFor m w) (judgedSlave (codeOf w) h) (ap (λ (o : Option ℕ). harmless SlaveFrame o h) (sym (waits-now w t l)) ∙ e)
   where
-    go : (o : Option View) (j : Judgement) → not (isSound j) ≡ true → Gentle (taken o j h)
+    go : (o : Option Standing) (j : Judgement) → not (isSound j) ≡ true → Gentle (taken o j h)
     go none j e = still
     go (some v) Sound e = absurd (false≢true e)
     go (some v) (Bad crc) e = marks
@@ -83,16 +85,16 @@ marked-twice w x y = rw (flags-of-word (faulty (flagsOf (w .flags)) x))
 
 -- ---- what a stretch of damage leaves: every address shows the same, only status bits differ, the host's choices stay
 
-pub record Kept (u s : World) : Type 0 where
+pub record Unharmed (u s : World) : Type 0 where
   pub areas : Alike (s .areas) (u .areas)
   pub only : OnlyStatus (u .areas) (s .areas)
   pub chosen : s .controller .times .chosen ≡ u .controller .times .chosen
   pub device : s .controller .device ≡ u .controller .device
 
-only-same : (m : Areas) → OnlyStatus m m
+pub only-same : (m : Areas) → OnlyStatus m m
 only-same m = record { index = refl; page0 = refl; page1 = refl; ports = λ p. inl refl }
 
-only-trans : (l m n : Areas) → OnlyStatus l m → OnlyStatus m n → OnlyStatus l n
+pub only-trans : (l m n : Areas) → OnlyStatus l m → OnlyStatus m n → OnlyStatus l n
 only-trans l m n f g =
     record {
       index = g .index ∙ f .index;
@@ -108,7 +110,7 @@ only-trans l m n f g =
     join (inr p) (inl q) = inr (p .0, q ∙ p .1)
     join {a = a} (inr p) (inr q) = inr (q .0, q .1 ∙ ap (λ (w : Words). markedWords w (q .0)) (p .1) ∙ marked-twice a (p .0) (q .0))
 
-pub gentle-only : (e : Effect) (m : Areas) → Shape m → Valid m e → Gentle e → OnlyStatus m (apply e m)
+pub gentle-only : (e : Effect) (m : Areas) → areasFit m ≡ true → Valid m e → Gentle e → OnlyStatus m (apply e m)
 unfolding apply
 gentle-only untouched m s v still = only-same m
 gentle-only (mark p x) m s (marking at) marks = record { index = refl; page0 = refl; page1 = refl; ports = λ q. by q (ℕ-discrete q p) }
@@ -117,44 +119,44 @@ gentle-only (mark p x) m s (marking at) marks = record { index = refl; page0 = r
         → (wordsAt (withWords (m .ports) p (markedWords (portAt m p) x)) q ≡ portAt m q)
         ⊎ ((y : Faults) × (wordsAt (withWords (m .ports) p (markedWords (portAt m p) x)) q ≡ markedWords (portAt m q) y))
     by q (yes e) =
-        inr (x, rw e (words-same (m .ports) p (markedWords (portAt m p) x) (omega (arith, at-here at .small, lengths m (s .fits) .ports))))
+        inr (x, rw e (words-same (m .ports) p (markedWords (portAt m p) x) (omega (arith, at-here at .small, lengths m s .ports))))
     by q (no n) = inl (words-other (m .ports) p q (markedWords (portAt m p) x) n)
 
 gentle-alike : (e : Effect) (m : Areas) → Shape m → Valid m e → Gentle e → Alike (apply e m) m
 gentle-alike e m s v g =
-    record { shape = shape-apply e m s v; shape′ = s; views = λ a. view-apply e m a s v ∙ unseen-effect e g a (view m a) }
+    record { shape = shape-apply e m s v; shape′ = s; stands = λ a. standing-apply e m a s v ∙ unseen-effect e g a (standing m a) }
   where
-    unseen-effect : (e : Effect) → Gentle e → (a : ℕ) (o : Option View) → viewAfter e a o ≡ o
+    unseen-effect : (e : Effect) → Gentle e → (a : ℕ) (o : Option Standing) → standingAfter e a o ≡ o
     unseen-effect untouched still a o = refl
     unseen-effect (mark p x) marks a o = refl
 
-kept-trans : (u s r : World) → Kept u s → Kept s r → Kept u r
+pub kept-trans : (u s r : World) → Unharmed u s → Unharmed s r → Unharmed u r
 kept-trans u s r f g =
     record {
-      areas = record { shape = g .areas .shape; shape′ = f .areas .shape′; views = λ a. g .areas .views a ∙ f .areas .views a };
+      areas = record { shape = g .areas .shape; shape′ = f .areas .shape′; stands = λ a. g .areas .stands a ∙ f .areas .stands a };
       only = only-trans (u .areas) (s .areas) (r .areas) (f .only) (g .only);
       chosen = g .chosen ∙ f .chosen;
       device = g .device ∙ f .device;
     }
 
-kept-tick : (s : World) → Shape (s .areas) → Kept s (tick s)
+pub kept-tick : (s : World) → Shape (s .areas) → Unharmed s (tick s)
 unfolding tick tickController tickEffect
 kept-tick s h =
     let m = s .areas in
     let e = effectLater m (due s) in
     let v = later-valid m (due s) in
     let g = gentle-late m (due s) in
-    record { areas = gentle-alike e m h v g; only = gentle-only e m h v g; chosen = refl; device = refl }
+    record { areas = gentle-alike e m h v g; only = gentle-only e m (h .fits) v g; chosen = refl; device = refl }
 
-kept-ticks : (n : ℕ) (s : World) → Shape (s .areas) → Kept s (ticks n s)
+pub kept-ticks : (n : ℕ) (s : World) → Shape (s .areas) → Unharmed s (ticks n s)
 unfolding ticks
 kept-ticks zero s h =
-    record { areas = record { shape = h; shape′ = h; views = λ a. refl }; only = only-same (s .areas); chosen = refl; device = refl }
+    record { areas = record { shape = h; shape′ = h; stands = λ a. refl }; only = only-same (s .areas); chosen = refl; device = refl }
 kept-ticks (suc n) s h = let k = kept-tick s h in kept-trans s (tick s) (ticks n (tick s)) k (kept-ticks n (tick s) (k .areas .shape))
 
-kept-hear : (past : List Call) (a b : Hearing) → Typed (hear a b) → ToldBy past (after past) → Damaged past (hear a b)
-    → Kept (after past) (step (hear a b) (after past))
-unfolding step effect hearController hearEffect heardBy heard
+pub kept-hear : (past : List Call) (a b : Hearing) → Typed (hear a b) → ToldBy past (after past) → Damaged past (hear a b)
+    → Unharmed (after past) (step (hear a b) (after past))
+unfolding step effect heardBy heard
 kept-hear past a b ty h d =
     let s = after past in
     let c = s .controller in
@@ -164,25 +166,26 @@ kept-hear past a b ty h d =
     one-of (c .lines .laa) (λ (y : Hearing). harmless (y .kind) (awaited past 0) y ≡ true) (d .0) (d .1) in
     let v = valid-heard (s .areas) k l (k .kind) (c .exchange) in
     let g = gentle-heard (s .areas) (c .times) k (k .kind) (c .exchange) (h .holds .live) (rw (h .holds .waits 0) f) in
-    record {
+    rw (hear-controller s a b, hear-effect s a b)
+    (record {
       areas = gentle-alike _ (s .areas) (h .holds .shape) v g;
-      only = gentle-only _ (s .areas) (h .holds .shape) v g;
+      only = gentle-only _ (s .areas) (h .holds .shape .fits) v g;
       chosen = chosen-heard (c .times) k (k .kind) (c .exchange);
       device = refl;
-    }
+    })
 
 -- During a stretch of damage only status bits change in the areas, and no address shows anything else.
 pub kept-stretch : (before stretch : List Call) → Accepted (stretch ++ before) → Damage before stretch
-    → Kept (after before) (after (stretch ++ before))
+    → Unharmed (after before) (after (stretch ++ before))
 unfolding after step
-kept-stretch before [] acc d = let s = told before acc .holds .shape in
-    record { areas = record { shape = s; shape′ = s; views = λ a. refl }; only = only-same _; chosen = refl; device = refl }
+kept-stretch before [] acc d = let s = past-told before acc .holds .shape in
+    record { areas = record { shape = s; shape′ = s; stands = λ a. refl }; only = only-same _; chosen = refl; device = refl }
 kept-stretch before (hear a b ∷ more) acc d =
     kept-trans _ _ _ (kept-stretch before more (acc .2) (d .1))
-    (kept-hear (more ++ before) a b (acc .0) (told (more ++ before) (acc .2)) (d .0))
+    (kept-hear (more ++ before) a b (acc .0) (past-told (more ++ before) (acc .2)) (d .0))
 kept-stretch before (quiet n ∷ more) acc d =
     kept-trans _ _ _ (kept-stretch before more (acc .2) (d .1))
-    (kept-ticks n (after (more ++ before)) (told (more ++ before) (acc .2) .holds .shape))
+    (kept-ticks n (after (more ++ before)) (past-told (more ++ before) (acc .2) .holds .shape))
 kept-stretch before (openPort a p code sink i ∷ more) acc d = absurd (d .0)
 kept-stretch before (closePort a ∷ more) acc d = absurd (d .0)
 kept-stretch before (writePort a ws ∷ more) acc d = absurd (d .0)
@@ -195,10 +198,14 @@ pub heard-master : (x : Hearing) → SoundMaster x → (e : Exchange) → asHear
 heard-master x m e = ap (λ (k : Kind). asHeard k e x) (m .kind) ∙ ap (λ (j : Judgement). asMaster j x) (m .sound)
 
 -- a sound master frame forgets exchange and times
-same-master : (u s : World) → Kept u s → (x : Hearing) → SoundMaster x → Same (step (hear x x) s) (step (hear x x) u)
-unfolding step effect hearController hearEffect heardBy heard apply
+pub same-master : (u s : World) → Unharmed u s → (x : Hearing) → SoundMaster x → Same (step (hear x x) s) (step (hear x x) u)
+unfolding step effect heardBy heard apply
 same-master u s k x m =
     rw (
+      hear-controller s x x,
+      hear-controller u x x,
+      hear-effect s x x,
+      hear-effect u x x,
       either-line (s .controller .lines) x,
       either-line (u .controller .lines) x,
       heard-master x m (s .controller .exchange),
@@ -214,89 +221,56 @@ same-master u s k x m =
     })
 
 -- an accepted call is accepted before a stretch of damage too, if it is a bus event
-master-accepted : (u s : World) → Kept u s → (x : Hearing) → refusal (hear x x) s ≡ 0 → refusal (hear x x) u ≡ 0
-unfolding needed
+pub master-accepted : (u s : World) → Unharmed u s → (x : Hearing) → refusal (hear x x) s ≡ 0 → refusal (hear x x) u ≡ 0
 master-accepted u s k x e =
-    let t = accepted (hear x x) s e in
-    let f = k .areas .shape′ in
-    let call = hear x x in
-    accepts call u
-    (record {
-      fits = fits-in u f call;
-      range = t .range;
-      entry = entry-in u f call;
-      port = refl;
-      free = refl;
-      formed = formed-in u f call;
-      side = refl;
-      size = refl;
-    })
-
-later-same : (later p q : List Call) → AllAlike later → Accepted (later ++ p) → Accepted q → Same (after p) (after q)
-    → Accepted (later ++ q) × Same (after (later ++ p)) (after (later ++ q))
-unfolding after
-later-same [] p q l acc other k = (other, k)
-later-same (c ∷ later) p q l acc other k =
-    let r = later-same later p q (l .1) (acc .2) other k in
-    let e = accepts-same _ _ (r .1) c (acc .1) in
-    ((acc .0, e, r .0), same-step _ _ (r .1) c (acc .0) (l .0) (acc .1) e)
+    accepts (hear x x) u
+    (bus-in (u .areas) (k .areas .shape′) _ (wordOfHeard (heardBy (u .controller) x x)) (accepted (hear x x) s e outOfRange))
 
 -- a tail of a run was accepted too
-earlier : (later p : List Call) → Accepted (later ++ p) → Accepted p
+pub earlier : (later p : List Call) → Accepted (later ++ p) → Accepted p
 earlier [] p acc = acc
 earlier (c ∷ later) p acc = earlier later p (acc .2)
 
--- two worlds in which every address shows the same words and has as many fills, and every master frame of a port gets the same reply
-pub record Unseen (s u : World) : Type 0 where
-  pub views : (a : ℕ) → view (s .areas) a ≡ view (u .areas) a
-  pub replies : (y : Hearing) → hasPorts (codeOf (firstWord y)) ≡ true → answer (hear y y) s ≡ answer (hear y y) u
-
-answer-same : (d e : Device) (m n : Areas) → Alike m n → d ≡ e → (h : Heard) → answerOf d m h ≡ answerOf e n h
+pub answer-same : (d e : Device) (m n : Areas) → Alike m n → d ≡ e → (h : Heard) → answerOf d m h ≡ answerOf e n h
 answer-same d e m n k i Nothing = refl
 answer-same d e m n k i Unsound = refl
 answer-same d e m n k i (Master w) = same-answer m n k d w ∙ ap (λ (z : Device). answerTo z n w) i
 answer-same d e m n k i (Reply w j) = refl
 answer-same d e m n k i Stray = refl
 
-unseen-same : (s u : World) → Same s u → Unseen s u
-unfolding answer hearAnswer heardBy heard
-unseen-same s u k =
-    record {
-      views = k .areas .views;
-      replies = λ y p. rw (either-line (s .controller .lines) y, either-line (u .controller .lines) y)
-          (answer-same _ _ _ _ (k .areas) (k .device) (asHeard (y .kind) (s .controller .exchange) y)
-          ∙ ap (λ (x : Exchange). answerOf (u .controller .device) (u .areas) (asHeard (y .kind) x y)) (k .exchange));
-    }
+-- a frame that both lines hear gets the same reply in both, whatever its code
+pub same-reply : (s u : World) → Same s u → (y : Hearing) → answer (hear y y) s ≡ answer (hear y y) u
+unfolding answer heardBy heard
+same-reply s u k y =
+    rw (hear-answer s y y, hear-answer u y y, either-line (s .controller .lines) y, either-line (u .controller .lines) y)
+    (answer-same _ _ _ _ (k .areas) (k .device) (asHeard (y .kind) (s .controller .exchange) y)
+    ∙ ap (λ (x : Exchange). answerOf (u .controller .device) (u .areas) (asHeard (y .kind) x y)) (k .exchange))
 
--- THE DAMAGE THEOREM. Any run before; any stretch of damage on two lines; an accepted sound master frame next; both lines alike from
--- there, and any host calls. Then the run without the stretch is accepted too, and after both every address shows the same words, with
--- the same fills, and gets the same data replies. What may differ: status bits (and so good against held), line state, counters and
--- interrupts; replies to status polls are not spoken of.
-pub damage-unseen : (before stretch later : List Call) (x : Hearing) → SoundMaster x → AllAlike later → Damage before stretch
-    → Accepted (later ++ (hear x x ∷ (stretch ++ before)))
-    → Accepted (later ++ (hear x x ∷ before))
-    × Unseen (after (later ++ (hear x x ∷ (stretch ++ before)))) (after (later ++ (hear x x ∷ before)))
-unfolding after
-damage-unseen before stretch later x m l d acc =
-    let p = earlier later (hear x x ∷ (stretch ++ before)) acc in
-    let k = kept-stretch before stretch (p .2) d in
-    let r = later-same later (hear x x ∷ (stretch ++ before)) (hear x x ∷ before) l acc
-    (p .0, master-accepted _ _ k x (p .1), earlier stretch before (p .2)) (same-master _ _ k x m) in
-    (r .0, unseen-same _ _ (r .1))
-
--- The master frame that ends the stretch gets the same data reply too.
-pub damage-first-reply : (before stretch : List Call) (x : Hearing) → SoundMaster x → hasPorts (codeOf (firstWord x)) ≡ true
-    → Damage before stretch
-    → Accepted (stretch ++ before) → answer (hear x x) (after (stretch ++ before)) ≡ answer (hear x x) (after before)
-unfolding answer hearAnswer heardBy heard
-damage-first-reply before stretch x m p d acc =
-    let s = after (stretch ++ before) in
-    let u = after before in
-    let k = kept-stretch before stretch acc d in
+-- and so does a sound master frame where exchange and times differ
+pub master-reply : (u s : World) → Unharmed u s → (x : Hearing) → SoundMaster x → answer (hear x x) s ≡ answer (hear x x) u
+unfolding answer heardBy heard
+master-reply u s k x m =
     rw (
+      hear-answer s x x,
+      hear-answer u x x,
       either-line (s .controller .lines) x,
       either-line (u .controller .lines) x,
       heard-master x m (s .controller .exchange),
       heard-master x m (u .controller .exchange),
     )
     (answer-same _ _ _ _ (k .areas) (k .device) (Master (firstWord x)))
+
+-- During a stretch of damage only status bits change in the areas, and no address shows anything else.
+pub stretch-marks : (before stretch : List Call) → Accepted (stretch ++ before) → Damage before stretch
+    → OnlyStatus (after before .areas) (after (stretch ++ before) .areas)
+stretch-marks before stretch acc d = kept-stretch before stretch acc d .only
+
+pub stretch-unseen : (before stretch : List Call) → Accepted (stretch ++ before) → Damage before stretch
+    → (a : ℕ) → view (after (stretch ++ before) .areas) a ≡ view (after before .areas) a
+unfolding view
+stretch-unseen before stretch acc d a = ap viewed (kept-stretch before stretch acc d .areas .stands a)
+
+-- so what is the same in all but lines, counts and interrupts is not seen
+pub unseen-same : (s u : World) → Same s u → Unseen s u
+unfolding view
+unseen-same s u k = record { views = λ a. ap viewed (k .areas .stands a); replies = λ y p. same-reply s u k y }

@@ -1,13 +1,12 @@
 -- The tests on areas and port words as facts: the four lengths, and the five parts of well formed words. Filling, marking and opening
 -- leave well formed words, since flags put together are read back; and no port has more than sixteen words. Assumes nothing.
+use mathlib.Core.Option.{Option, none, some}
 use Prim.Native.Nat.{ℕ, _*_, _≤_, _<_}
 use mathlib.Core.Path.{_≡_, refl, sym, _∙_}
 use mathlib.Core.Bool.{Bool, true, false, not, _&&_, false≢true}
 use native.Mathlib.Omega.{arith}
 use borrow.Author.Tests.{leb-true, eqb-true, le-leb, eq-eqb}
 use lib.ListN.{length}
-use Rattle.frames.specs.declared.Expected.{Expected}
-use Rattle.frames.specs.declared.Expected.the-variants.{Words as Expects, NoReply}
 use Rattle.frames.specs.Size.{expectedOf}
 use Rattle.frames.proofs.Sizes.{longest}
 use Rattle.model.specs.declared.Words.{Words}
@@ -132,6 +131,6 @@ pub size-small : (code : ℕ) → sizeOf code ≤ 16
 unfolding sizeOf
 size-small code = go (expectedOf code) refl
   where
-    go : (x : Expected) → expectedOf code ≡ x → wordsIn x ≤ 16
-    go (Expects n) e = longest code n e
-    go NoReply e = omega arith
+    go : (x : Option ℕ) → expectedOf code ≡ x → wordsIn x ≤ 16
+    go (some n) e = longest code n e
+    go none e = omega arith

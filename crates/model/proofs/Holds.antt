@@ -8,19 +8,19 @@ use Rattle.model.specs.declared.Exchange.{Exchange}
 use Rattle.model.specs.declared.Times.{Times}
 use Rattle.model.specs.declared.Controller.{Controller}
 use Rattle.model.specs.Layout.{Areas}
-use Rattle.model.specs.Ports.{View, view}
-use Rattle.model.specs.Shape.{Shape, Valid, nothing, marking, viewAfter}
+use Rattle.model.specs.Ports.{Standing, standing}
 use Rattle.model.specs.Event.{World, sinkFor}
 use Rattle.model.specs.Quiet.{times, missed, effectLater, due, tickEffect, tickController, tick, ticks}
-use Rattle.model.proofs.Shape.{shape-apply, view-apply}
+use Rattle.model.proofs.Shape.{Shape, Valid, nothing, marking, standingAfter}
+use Rattle.model.proofs.ShapeKept.{shape-apply, standing-apply}
 use Rattle.model.proofs.Accepted.{sink-at}
 use Rattle.model.proofs.Waits.{waitNow, Live, waits-later, live-later}
 
 -- ---- areas and exchange, against what is to be shown and waited for
 
-pub record Holds (W : ℕ → Option ℕ) (S : ℕ → Option View) (x : Exchange) (t : Times) (m : Areas) : Type 0 where
+pub record Holds (W : ℕ → Option ℕ) (S : ℕ → Option Standing) (x : Exchange) (t : Times) (m : Areas) : Type 0 where
   pub shape : Shape m
-  pub views : (a : ℕ) → view m a ≡ S a
+  pub stands : (a : ℕ) → standing m a ≡ S a
   pub waits : (q : ℕ) → waitNow x t q ≡ W q
   pub live : Live x t
   pub short : t .adopted ≤ 128
@@ -30,7 +30,7 @@ pub record Holds (W : ℕ → Option ℕ) (S : ℕ → Option View) (x : Exchang
 missed-valid : (m : Areas) (w : ℕ) → Valid m (missed (sinkFor m w))
 missed-valid m w = go (sinkFor m w) refl
   where
-    go : (o : Option View) → sinkFor m w ≡ o → Valid m (missed o)
+    go : (o : Option Standing) → sinkFor m w ≡ o → Valid m (missed o)
     go none e = nothing
     go (some v) e = marking (sink-at m w v e)
 
@@ -38,18 +38,18 @@ pub later-valid : (m : Areas) (o : Option ℕ) → Valid m (effectLater m o)
 later-valid m none = nothing
 later-valid m (some w) = missed-valid m w
 
-pub unseen : (m : Areas) (o : Option ℕ) (a : ℕ) (v : Option View) → viewAfter (effectLater m o) a v ≡ v
+pub unseen : (m : Areas) (o : Option ℕ) (a : ℕ) (v : Option Standing) → standingAfter (effectLater m o) a v ≡ v
 unseen m none a v = refl
 unseen m (some w) a v = go (sinkFor m w)
   where
-    go : (o : Option View) → viewAfter (missed o) a v ≡ v
+    go : (o : Option Standing) → standingAfter (missed o) a v ≡ v
     go none = refl
     go (some u) = refl
 
-abbrev pub HoldsAt : (ℕ → Option ℕ) → (ℕ → Option View) → World → Type 0
+abbrev pub HoldsAt : (ℕ → Option ℕ) → (ℕ → Option Standing) → World → Type 0
 HoldsAt W S s = Holds W S (s .controller .exchange) (s .controller .times) (s .areas)
 
-tick-holds : (W : ℕ → Option ℕ) (S : ℕ → Option View) (s : World) → HoldsAt W S s → HoldsAt (λ q. W (1 + q)) S (tick s)
+tick-holds : (W : ℕ → Option ℕ) (S : ℕ → Option Standing) (s : World) → HoldsAt W S s → HoldsAt (λ q. W (1 + q)) S (tick s)
 unfolding tick tickController tickEffect
 tick-holds W S s h =
     let x = s .controller .exchange in
@@ -58,7 +58,7 @@ tick-holds W S s h =
     let ok = later-valid (s .areas) (due s) in
     record {
       shape = shape-apply e (s .areas) (h .shape) ok;
-      views = λ a. view-apply e (s .areas) a (h .shape) ok ∙ unseen (s .areas) (due s) a (view (s .areas) a) ∙ h .views a;
+      stands = λ a. standing-apply e (s .areas) a (h .shape) ok ∙ unseen (s .areas) (due s) a (standing (s .areas) a) ∙ h .stands a;
       waits = λ q. waits-later x t (h .live) (h .short) q ∙ h .waits (1 + q);
       live = live-later x t (h .live);
       short = h .short;
@@ -75,10 +75,10 @@ unfolding ticks tick tickController
 ticks-lasting zero s = record { chosen = refl; counts = refl; device = refl }
 ticks-lasting (suc n) s = let h = ticks-lasting n (tick s) in record { chosen = h .chosen; counts = h .counts; device = h .device }
 
-pub ticks-hold : (n : ℕ) (W : ℕ → Option ℕ) (S : ℕ → Option View) (s : World) → HoldsAt W S s → HoldsAt (λ q. W (n + q)) S (ticks n s)
+pub ticks-hold : (n : ℕ) (W : ℕ → Option ℕ) (S : ℕ → Option Standing) (s : World) → HoldsAt W S s → HoldsAt (λ q. W (n + q)) S (ticks n s)
 unfolding ticks
 ticks-hold zero W S s h =
-    record { shape = h .shape; views = h .views; waits = λ q. rw zero-add (h .waits q); live = h .live; short = h .short }
+    record { shape = h .shape; stands = h .stands; waits = λ q. rw zero-add (h .waits q); live = h .live; short = h .short }
 ticks-hold (suc n) W S s h =
     let r = ticks-hold n (λ q. W (1 + q)) S (tick s) (tick-holds W S s h) in
-    record { shape = r .shape; views = r .views; waits = λ q. r .waits q ∙ ap W (omega arith); live = r .live; short = r .short }
+    record { shape = r .shape; stands = r .stands; waits = λ q. r .waits q ∙ ap W (omega arith); live = r .live; short = r .short }

@@ -2,7 +2,7 @@
 use Prim.Native.Nat.{ℕ, _%_, _≤_, _<_, min}
 use mathlib.Core.Path.{_≡_, refl, sym, _∙_, ap, ap₂, subst, subst₂}
 use mathlib.Core.Bool.{Bool, true, false, cond, _||_, true≢false, false≢true}
-use mathlib.Core.List.{List, _∷_}
+use mathlib.Core.List.{List, [], _∷_}
 use mathlib.Core.Option.{Option, none, some}
 use native.Mathlib.Omega.{arith}
 use lib.Dec.{eqb, lit<, lit≤}
@@ -12,41 +12,45 @@ use Rattle.model.specs.declared.Exchange.{Exchange}
 use Rattle.model.specs.declared.Exchange.the-variants.{Idle, Waiting, Done}
 use Rattle.model.specs.declared.Times.{Times}
 use Rattle.model.specs.declared.Counts.{Counts}
+use Rattle.model.specs.declared.Device.{Device}
 use Rattle.model.specs.declared.Controller.{Controller}
 use Rattle.model.specs.Layout.{Areas, entry}
-use Rattle.model.specs.Ports.{View, viewOf, view, Effect, untouched, fill, opened, closed, apply}
-use Rattle.model.specs.Shape.{Valid, nothing, refilled, refillIf, justOpened, viewAfter}
+use Rattle.model.specs.Ports.{Standing, standingOf, standing, Effect, untouched, fill, opened, closed, apply}
 use Rattle.model.specs.Quiet.{times}
 use Rattle.model.specs.Host.{freshController, isReplyTime, settingOut, Setting, address, status, replyTime, slm, ls, clearEC, reset}
 use Rattle.model.specs.Host.{group0, group1, tell}
 use Rattle.model.specs.Calls.{Call, quiet, openPort, closePort, writePort, readPort, setting, refusal, effect, step}
-use Rattle.model.specs.Past.{after, isReset, chosenBy, lastSet, chosenIn, awaited, Opening, opening, openingOf, answersSince}
-use Rattle.model.specs.Past.{writesSince, lastOf, viewWith, toldView, lastStatus, countSince, framesJudged, framesUnsound}
-use Rattle.model.proofs.Views.{distinct}
-use Rattle.model.proofs.Shape.{shape-apply, view-apply}
+use Rattle.model.specs.Past.{Change, keeps, opens, closes, writes, changes, happening, leaves, after, isReset, settingsBy, awaited}
+use Rattle.model.specs.Past.{Opening, opening, openingOf, answersSince, lastSettings, writesSince, lastOf, countSince, framesJudged}
+use Rattle.model.specs.Past.{framesUnsound}
+use Rattle.model.proofs.ToldPort.{standingWith, toldStanding}
+use Rattle.model.proofs.Shape.{Valid, nothing, refill, refillIf, justOpened, standingAfter}
+use Rattle.model.proofs.Standings.{distinct}
+use Rattle.model.proofs.ShapeKept.{shape-apply, standing-apply}
 use Rattle.model.proofs.Accepted.{valid-open, valid-close, found-write, write-source, valid-write}
 use Rattle.model.proofs.Waits.{waitNow, Live}
 use Rattle.model.proofs.Holds.{ticks-lasting, ticks-hold}
-use Rattle.model.proofs.Invariant.{statusNow, Told, ToldBy}
+use Rattle.model.proofs.Invariant.{Told, ToldBy}
+use Rattle.model.proofs.Replies.{statusNow}
 
 -- ---- calls that fill no port
 
 told-same : (past more : List Call) (a : ℕ) (o : Option Opening) → ((w : ℕ) → answersSince more a w ≡ answersSince past a w)
     → writesSince more a ≡ writesSince past a
-    → toldView past a o ≡ toldView more a o
+    → toldStanding past a o ≡ toldStanding more a o
 told-same past more a none f g = refl
 told-same past more a (some o) f g = rw (f (o .word), g)
 
 pub quiet-told : (past : List Call) (n : ℕ) → ToldBy past (after past) → ToldBy (quiet n ∷ past) (step (quiet n) (after past))
-unfolding step awaited chosenIn lastStatus framesJudged framesUnsound openingOf answersSince writesSince lastSet countSince
+unfolding step awaited framesJudged framesUnsound openingOf answersSince writesSince countSince lastSettings
 quiet-told past n h =
-    let r = ticks-hold n (awaited past) (λ a. toldView past a (openingOf past a)) (after past) (h .holds) in
+    let r = ticks-hold n (awaited past) (λ a. toldStanding past a (openingOf past a)) (after past) (h .holds) in
     let k = ticks-lasting n (after past) in
     record {
       holds =
           record {
             shape = r .shape;
-            views = λ a. r .views a ∙ told-same past (quiet n ∷ past) a (openingOf past a) (λ w. refl) refl;
+            stands = λ a. r .stands a ∙ told-same past (quiet n ∷ past) a (openingOf past a) (λ w. refl) refl;
             waits = r .waits;
             live = r .live;
             short = r .short;
@@ -55,160 +59,176 @@ quiet-told past n h =
       some-time = h .some-time;
       short-time = h .short-time;
       status = ap statusNow (k .device) ∙ h .status;
+      address = ap (λ (d : Device). d .address) (k .device) ∙ h .address;
       fc = ap (λ (c : Counts). c .fc) (k .counts) ∙ h .fc;
       ec = ap (λ (c : Counts). c .ec) (k .counts) ∙ h .ec;
     }
 
--- a call that leaves the controller as it is: what it does to the areas is seen as the past tells it
-area-told : (past : List Call) (c : Call) (e : Effect)
-    → ((q : ℕ) → awaited (c ∷ past) q ≡ awaited past q) → chosenIn (c ∷ past) ≡ chosenIn past → lastStatus (c ∷ past) ≡ lastStatus past
-    → framesJudged (c ∷ past) ≡ framesJudged past → framesUnsound (c ∷ past) ≡ framesUnsound past
-    → Valid (after past .areas) e
-    → ((a : ℕ) → viewAfter e a (view (after past .areas) a) ≡ toldView (c ∷ past) a (openingOf (c ∷ past) a))
-    → ToldBy past (after past) → Told (c ∷ past) (after past .controller) (apply e (after past .areas))
-area-told past c e w ch st fj fu ok vs h =
-    let m = after past .areas in
-    let H = h .holds in
-    record {
-      holds = record {
-        shape = shape-apply e m (H .shape) ok;
-        views = λ a. view-apply e m a (H .shape) ok ∙ vs a;
-        waits = λ q. H .waits q ∙ sym (w q);
-        live = H .live;
-        short = H .short;
-      };
-      chosen = h .chosen ∙ sym ch;
-      some-time = rw ch (h .some-time);
-      short-time = rw ch (h .short-time);
-      status = h .status ∙ sym st;
-      fc = rw fj (h .fc);
-      ec = rw fu (h .ec);
-    }
+-- ---- the host's calls on ports: they leave the controller as it is, and what they do to the areas is seen as the past tells it
 
--- ---- opening
+-- a change of an address, as what stands there has it
+abbrev standingBy : Change → Option Standing → Option Standing
+standingBy keeps v = v
+standingBy (opens o) v = some (standingWith o none 0)
+standingBy closes v = none
+standingBy (writes ws) none = none
+standingBy (writes ws) (some v) = some (refill ws v)
 
-open-view : (past : List Call) (b p code : ℕ) (sink : Bool) (i a : ℕ)
-    → cond (eqb b a) (some (justOpened b p code sink i)) (toldView past a (openingOf past a))
-    ≡ toldView (openPort b p code sink i ∷ past) a (openingOf (openPort b p code sink i ∷ past) a)
-unfolding openingOf answersSince writesSince
-open-view past b p code sink i a = go (eqb b a) refl sink
-  where
-    go : (c : Bool) → eqb b a ≡ c → (k : Bool)
-        → cond c (some (justOpened b p code k i)) (toldView past a (openingOf past a))
-        ≡ toldView (openPort b p code k i ∷ past) a (cond c (some (opening b p code k i)) (openingOf past a))
-    go true e true = rw e
-    go true e false = rw e
-    go false e k = told-same past (openPort b p code k i ∷ past) a (openingOf past a) (λ w. rw e) (rw e)
+-- words are written to a source
+abbrev ToSource : Change → Option Standing → Type 0
+ToSource keeps v = Unit
+ToSource (opens o) v = Unit
+ToSource closes v = Unit
+ToSource (writes ws) none = Unit
+ToSource (writes ws) (some v) = v .sink ≡ false
+
+module _ (past : List Call) (c : Call) (f : ℕ → Change) (h : happening c ≡ changes f) where
+  standing-told : (a : ℕ) → ToSource (f a) (toldStanding past a (openingOf past a))
+      → standingBy (f a) (toldStanding past a (openingOf past a)) ≡ toldStanding (c ∷ past) a (openingOf (c ∷ past) a)
+  unfolding openingOf answersSince writesSince
+  standing-told a = rw h (go (f a) refl (openingOf past a))
+    where
+      either : (b : Bool) → cond {A = List (List ℕ)} b [] [] ≡ []
+      either true = refl
+      either false = refl
+
+      go : (x : Change) → f a ≡ x → (o : Option Opening) → ToSource x (toldStanding past a o)
+          → standingBy x (toldStanding past a o) ≡ toldStanding (c ∷ past) a (leaves x o)
+      go keeps e none t = refl
+      go keeps e (some o) t = rw (h, e)
+      go (opens o) e p t = rw (h, e, either (o .sink))
+      go closes e o t = refl
+      go (writes ws) e none t = refl
+      go (writes ws) e (some o) t = rw (h, e) (by (o .sink) t)
+        where
+          ss : List (List ℕ)
+          ss = answersSince past a (o .word)
+
+          wr : List (List ℕ)
+          wr = writesSince past a
+
+          by : (k : Bool) → k ≡ false
+              → _≡_ {A = Option Standing} (some (refill ws (standingWith o (lastOf (cond k ss wr)) (length (cond k ss wr) % 65536))))
+              (some (standingWith o (lastOf (cond k ss (ws ∷ wr))) (length (cond k ss (ws ∷ wr)) % 65536)))
+          by true q = absurd (true≢false q)
+          by false q = ap (λ (n : ℕ). some (standingWith o (some ws) n)) (omega arith)
+
+  area-told : (e : Effect) → Valid (after past .areas) e
+      → ((a : ℕ) (v : Option Standing) → standing (after past .areas) a ≡ v → ToSource (f a) v × (standingAfter e a v ≡ standingBy (f a) v))
+      → ToldBy past (after past) → Told (c ∷ past) (after past .controller) (apply e (after past .areas))
+  unfolding awaited framesJudged framesUnsound countSince lastSettings
+  area-told e ok seen told =
+      let m = after past .areas in
+      let H = told .holds in
+      record {
+        holds = record {
+          shape = shape-apply e m (H .shape) ok;
+          stands = λ a. let s = seen a (toldStanding past a (openingOf past a)) (H .stands a) in
+              standing-apply e m a (H .shape) ok ∙ ap (standingAfter e a) (H .stands a) ∙ s .1 ∙ standing-told a (s .0);
+          waits = λ q. rw h (H .waits q);
+          live = H .live;
+          short = H .short;
+        };
+        chosen = rw h (told .chosen);
+        some-time = rw h (told .some-time);
+        short-time = rw h (told .short-time);
+        status = rw h (told .status);
+        address = rw h (told .address);
+        fc = rw h (told .fc);
+        ec = rw h (told .ec);
+      }
 
 pub open-told : (past : List Call) (b p code : ℕ) (sink : Bool) (i : ℕ) → refusal (openPort b p code sink i) (after past) ≡ 0
     → ToldBy past (after past)
     → ToldBy (openPort b p code sink i ∷ past) (step (openPort b p code sink i) (after past))
-unfolding step effect awaited chosenIn lastStatus framesJudged framesUnsound lastSet countSince
-open-told past b p code sink i r h =
-    area-told past (openPort b p code sink i) (opened b p code sink i) (λ q. refl) refl refl refl refl
-    (valid-open b p code sink i (after past) r)
-    (λ a. rw (h .holds .views a) (open-view past b p code sink i a)) h
-
--- ---- closing
-
-close-view : (past : List Call) (b a : ℕ)
-    → cond (eqb b a) none (toldView past a (openingOf past a)) ≡ toldView (closePort b ∷ past) a (openingOf (closePort b ∷ past) a)
-unfolding openingOf answersSince writesSince
-close-view past b a = go (eqb b a)
+unfolding step effect
+open-told past b p code sink i r =
+    area-told past (openPort b p code sink i) _ refl (opened b p code sink i) (valid-open b p code sink i (after past) r)
+    (λ a v e. go (eqb b a) v)
   where
-    go : (c : Bool) → cond c none (toldView past a (openingOf past a)) ≡ toldView (closePort b ∷ past) a (cond c none (openingOf past a))
-    go true = refl
-    go false = told-same past (closePort b ∷ past) a (openingOf past a) (λ w. refl) refl
+    go : (k : Bool) (v : Option Standing)
+        → ToSource (cond k (opens (opening b p code sink i)) keeps) v
+        × (cond k (some (justOpened b p code sink i)) v ≡ standingBy (cond k (opens (opening b p code sink i)) keeps) v)
+    go true v = (tt, refl)
+    go false v = (tt, refl)
 
 pub close-told : (past : List Call) (b : ℕ) → refusal (closePort b) (after past) ≡ 0 → ToldBy past (after past)
     → ToldBy (closePort b ∷ past) (step (closePort b) (after past))
-unfolding step effect awaited chosenIn lastStatus framesJudged framesUnsound lastSet countSince
-close-told past b r h =
-    area-told past (closePort b) (closed b (entry (after past .areas) b)) (λ q. refl) refl refl refl refl (valid-close b (after past) r)
-    (λ a. rw (h .holds .views a) (close-view past b a)) h
-
--- ---- writing
+unfolding step effect
+close-told past b r =
+    area-told past (closePort b) _ refl (closed b (entry (after past .areas) b)) (valid-close b (after past) r) (λ a v e. go (eqb b a) v)
+  where
+    go : (k : Bool) (v : Option Standing) → ToSource (cond k closes keeps) v × (cond k none v ≡ standingBy (cond k closes keeps) v)
+    go true v = (tt, refl)
+    go false v = (tt, refl)
 
 -- the port of address b is that of address a exactly if they are one
-one-address : (m : Areas) (b a : ℕ) (u v : View) → view m b ≡ some u → view m a ≡ some v → eqb (v .port) (u .port) ≡ eqb b a
+one-address : (m : Areas) (b a : ℕ) (u v : Standing) → standing m b ≡ some u → standing m a ≡ some v → eqb (v .port) (u .port) ≡ eqb b a
 one-address m b a u v eu ev = go (eqb b a) refl
   where
     go : (c : Bool) → eqb b a ≡ c → eqb (v .port) (u .port) ≡ c
     go true e =
-        let same : some u ≡ some v = sym eu ∙ ap (view m) (eqb-true b a e) ∙ ev in
+        let same : some u ≡ some v = sym eu ∙ ap (standing m) (eqb-true b a e) ∙ ev in
         let w : u ≡ v = cc in
-        eq-eqb _ _ (sym (ap (λ (x : View). x .port) w))
+        eq-eqb _ _ (sym (ap (λ (x : Standing). x .port) w))
     go false e = ne-eqb _ _ (λ p. eqb-false b a e (sym (distinct m a b v u ev eu p)))
 
-write-view : (past : List Call) (b a : ℕ) (ws : List ℕ) (o : Option Opening)
-    → (eqb b a ≡ true → (v : View) → toldView past a o ≡ some v → v .sink ≡ false)
-    → (p : ℕ) → ((v : View) → toldView past a o ≡ some v → eqb (v .port) p ≡ eqb b a)
-    → refillIf p ws (toldView past a o) ≡ toldView (writePort b ws ∷ past) a o
-unfolding answersSince writesSince
-write-view past b a ws none src p one = refl
-write-view past b a ws (some o) src p one = rw (one _ refl) (go (eqb b a) refl (o .sink) refl)
-  where
-    ss : List (List ℕ)
-    ss = answersSince past a (o .word)
+module _ (past : List Call) (b : ℕ) (ws : List ℕ) (r : refusal (writePort b ws) (after past) ≡ 0) where
+  abbrev M : Areas
+  M = after past .areas
 
-    wr : List (List ℕ)
-    wr = writesSince past a
+  abbrev there : Standing
+  there = standingOf M (entry M b)
 
-    go : (c : Bool) → eqb b a ≡ c → (k : Bool) → o .sink ≡ k
-        → _≡_ {A = Option View}
-        (some (cond c (refilled ws (viewWith o (lastOf (cond k ss wr)) (length (cond k ss wr) % 65536)))
-        (viewWith o (lastOf (cond k ss wr)) (length (cond k ss wr) % 65536))))
-        (some (viewWith o (lastOf (cond k ss (cond c (ws ∷ wr) wr))) (length (cond k ss (cond c (ws ∷ wr) wr)) % 65536)))
-    go true e true ek = absurd (true≢false (sym ek ∙ src e _ refl))
-    go true e false ek = ap (λ (n : ℕ). some (viewWith o (some ws) n)) (omega arith)
-    go false e true ek = refl
-    go false e false ek = refl
+  written-seen : (a : ℕ) (v : Option Standing) → standing M a ≡ v
+      → ToSource (cond (eqb b a) (writes ws) keeps) v × (refillIf (entry M b) ws v ≡ standingBy (cond (eqb b a) (writes ws) keeps) v)
+  unfolding standingOf
+  written-seen a none e = go (eqb b a)
+    where
+      go : (k : Bool) → ToSource (cond k (writes ws) keeps) none × (none ≡ standingBy (cond k (writes ws) keeps) none)
+      go true = (tt, refl)
+      go false = (tt, refl)
+  written-seen a (some v) e = rw (one-address M b a there v (found-write b ws (after past) r) e) (go (eqb b a) refl)
+    where
+      go : (k : Bool) → eqb b a ≡ k
+          → ToSource (cond k (writes ws) keeps) (some v)
+          × (some (cond k (refill ws v) v) ≡ standingBy (cond k (writes ws) keeps) (some v))
+      go true z =
+          let same : some there ≡ some v = sym (found-write b ws (after past) r) ∙ ap (standing M) (eqb-true b a z) ∙ e in
+          let w : there ≡ v = cc in
+          (sym (ap (λ (x : Standing). x .sink) w) ∙ write-source b ws (after past) r, refl)
+      go false z = (tt, refl)
 
-pub write-told : (past : List Call) (b : ℕ) (ws : List ℕ) → refusal (writePort b ws) (after past) ≡ 0 → ToldBy past (after past)
-    → ToldBy (writePort b ws ∷ past) (step (writePort b ws) (after past))
-unfolding step effect awaited chosenIn lastStatus framesJudged framesUnsound openingOf viewOf lastSet countSince
-write-told past b ws r h =
-    let m = after past .areas in
-    let at = found-write b ws (after past) r in
-    area-told past (writePort b ws) (fill (entry m b) ws) (λ q. refl) refl refl refl refl (valid-write b ws (after past) r)
-    (λ a. rw (h .holds .views a)
-    (write-view past b a ws (openingOf past a)
-    (λ e v ev. source v (sym at ∙ ap (view m) (eqb-true b a e) ∙ h .holds .views a ∙ ev))
-    (entry m b)
-    (λ v ev. one-address m b a (viewOf m (entry m b)) v at (h .holds .views a ∙ ev)))) h
-  where
-    source : (v : View) → some (viewOf (after past .areas) (entry (after past .areas) b)) ≡ some v → v .sink ≡ false
-    source v e =
-        let w : viewOf (after past .areas) (entry (after past .areas) b) ≡ v = cc in
-        sym (ap (λ (x : View). x .sink) w) ∙ write-source b ws (after past) r
-
--- ---- reading, and the host's settings
+  pub write-told : ToldBy past (after past) → ToldBy (writePort b ws ∷ past) (step (writePort b ws) (after past))
+  unfolding step effect
+  write-told = area-told past (writePort b ws) _ refl (fill (entry M b) ws) (valid-write b ws (after past) r) written-seen
 
 pub read-told : (past : List Call) (b : ℕ) → ToldBy past (after past) → ToldBy (readPort b ∷ past) (step (readPort b) (after past))
-unfolding step apply awaited chosenIn lastStatus framesJudged framesUnsound openingOf answersSince writesSince lastSet countSince
-read-told past b h =
-    area-told past (readPort b) untouched (λ q. refl) refl refl refl refl nothing
-    (λ a. h .holds .views a ∙ told-same past (readPort b ∷ past) a (openingOf past a) (λ w. refl) refl) h
+unfolding step apply
+read-told past b = area-told past (readPort b) _ refl untouched nothing (λ a v e. (tt, refl))
 
--- settings change no view
-set-views : (past : List Call) (t : Setting) (m : Areas) → ((a : ℕ) → view m a ≡ toldView past a (openingOf past a))
-    → (a : ℕ) → view m a ≡ toldView (setting t ∷ past) a (openingOf (setting t ∷ past) a)
+-- ---- the host's settings
+
+-- settings change nothing that stands open
+set-stands : (past : List Call) (t : Setting) (m : Areas) → ((a : ℕ) → standing m a ≡ toldStanding past a (openingOf past a))
+    → (a : ℕ) → standing m a ≡ toldStanding (setting t ∷ past) a (openingOf (setting t ∷ past) a)
 unfolding openingOf answersSince writesSince
-set-views past t m v a = v a ∙ told-same past (setting t ∷ past) a (openingOf past a) (λ w. refl) refl
+set-stands past t m v a = v a ∙ told-same past (setting t ∷ past) a (openingOf past a) (λ w. refl) refl
 
 -- a setting that leaves exchange and times as they are
 kept-told : (past : List Call) (t : Setting) (c e : Controller) (m : Areas)
-    → e .exchange ≡ c .exchange → e .times ≡ c .times → isReset t ≡ false → chosenBy t (chosenIn past) ≡ chosenIn past
-    → statusNow (e .device) ≡ lastStatus (setting t ∷ past)
+    → e .exchange ≡ c .exchange → e .times ≡ c .times → isReset t ≡ false → settingsBy t (lastSettings past) .replyTime ≡ lastSettings past .replyTime
+    → statusNow (e .device) ≡ lastSettings (setting t ∷ past) .status
+    → e .device .address ≡ lastSettings (setting t ∷ past) .address
     → e .counts .fc ≡ framesJudged (setting t ∷ past) % 65536 → e .counts .ec ≡ min (framesUnsound (setting t ∷ past)) 65535
     → Told past c m → Told (setting t ∷ past) e m
-unfolding awaited chosenIn lastSet
-kept-told past t c e m ex et er ch st fc ec h =
+unfolding awaited lastSettings
+kept-told past t c e m ex et er ch st ad fc ec h =
     let H = h .holds in
     record {
       holds = record {
         shape = H .shape;
-        views = set-views past t m (H .views);
+        stands = set-stands past t m (H .stands);
         waits = λ q. ap₂ (λ (x : Exchange) (y : Times). waitNow x y q) ex et ∙ H .waits q ∙ rw er;
         live = subst₂ Live (sym ex) (sym et) (H .live);
         short = subst (λ (y : Times). y .adopted ≤ 128) (sym et) (H .short);
@@ -217,6 +237,7 @@ kept-told past t c e m ex et er ch st fc ec h =
       some-time = rw ch (h .some-time);
       short-time = rw ch (h .short-time);
       status = st;
+      address = ad;
       fc = fc;
       ec = ec;
     }
@@ -244,14 +265,14 @@ reply-time t e = go (eqb t 32) (eqb t 64) (eqb t 96) (eqb t 128) refl refl refl 
 
 module _ (past : List Call) (c : Controller) (m : Areas) (h : Told past c m) where
   time-told : (t : ℕ) → isReplyTime t ≡ true → Told (setting (replyTime t) ∷ past) (tell (replyTime t) c) m
-  unfolding tell awaited chosenIn lastStatus framesJudged framesUnsound lastSet countSince
+  unfolding tell awaited framesJudged framesUnsound countSince lastSettings
   time-told t e =
       let H = h .holds in
       let r = reply-time t e in
       record {
         holds = record {
           shape = H .shape;
-          views = set-views past (replyTime t) m (H .views);
+          stands = set-stands past (replyTime t) m (H .stands);
           waits = λ q. wait-kept (c .exchange) (c .times) t q ∙ H .waits q;
           live = live-kept (c .exchange) (c .times) t (H .live);
           short = H .short;
@@ -260,17 +281,18 @@ module _ (past : List Call) (c : Controller) (m : Areas) (h : Told past c m) whe
         some-time = r .0;
         short-time = r .1;
         status = h .status;
+        address = h .address;
         fc = h .fc;
         ec = h .ec;
       }
 
   reset-told : Told (setting reset ∷ past) (tell reset c) m
-  unfolding tell freshController awaited chosenIn lastStatus framesJudged framesUnsound lastSet countSince
+  unfolding tell freshController awaited framesJudged framesUnsound countSince lastSettings
   reset-told =
       record {
         holds = record {
           shape = h .holds .shape;
-          views = set-views past reset m (h .holds .views);
+          stands = set-stands past reset m (h .holds .stands);
           waits = λ q. refl;
           live = tt;
           short = lit≤ tt;
@@ -279,18 +301,19 @@ module _ (past : List Call) (c : Controller) (m : Areas) (h : Told past c m) whe
         some-time = lit< tt;
         short-time = lit≤ tt;
         status = refl;
+        address = refl;
         fc = refl;
         ec = refl;
       }
 
   pub set-told : (t : Setting) → settingOut t ≡ false → Told (setting t ∷ past) (tell t c) m
-  unfolding tell lastStatus framesJudged framesUnsound lastSet countSince
-  set-told (address a) e = kept-told past (address a) c (tell (address a) c) m refl refl refl refl (h .status) (h .fc) (h .ec) h
-  set-told (status w) e = kept-told past (status w) c (tell (status w) c) m refl refl refl refl refl (h .fc) (h .ec) h
+  unfolding tell framesJudged framesUnsound countSince lastSettings
+  set-told (address a) e = kept-told past (address a) c (tell (address a) c) m refl refl refl refl (h .status) refl (h .fc) (h .ec) h
+  set-told (status w) e = kept-told past (status w) c (tell (status w) c) m refl refl refl refl refl (h .address) (h .fc) (h .ec) h
   set-told (replyTime t) e = time-told t (not-false _ e)
-  set-told (slm b) e = kept-told past (slm b) c (tell (slm b) c) m refl refl refl refl (h .status) (h .fc) (h .ec) h
-  set-told (ls b) e = kept-told past (ls b) c (tell (ls b) c) m refl refl refl refl (h .status) (h .fc) (h .ec) h
-  set-told clearEC e = kept-told past clearEC c (tell clearEC c) m refl refl refl refl (h .status) (h .fc) refl h
+  set-told (slm b) e = kept-told past (slm b) c (tell (slm b) c) m refl refl refl refl (h .status) (h .address) (h .fc) (h .ec) h
+  set-told (ls b) e = kept-told past (ls b) c (tell (ls b) c) m refl refl refl refl (h .status) (h .address) (h .fc) (h .ec) h
+  set-told clearEC e = kept-told past clearEC c (tell clearEC c) m refl refl refl refl (h .status) (h .address) (h .fc) refl h
   set-told reset e = reset-told
-  set-told (group0 g) e = kept-told past (group0 g) c (tell (group0 g) c) m refl refl refl refl (h .status) (h .fc) (h .ec) h
-  set-told (group1 g) e = kept-told past (group1 g) c (tell (group1 g) c) m refl refl refl refl (h .status) (h .fc) (h .ec) h
+  set-told (group0 g) e = kept-told past (group0 g) c (tell (group0 g) c) m refl refl refl refl (h .status) (h .address) (h .fc) (h .ec) h
+  set-told (group1 g) e = kept-told past (group1 g) c (tell (group1 g) c) m refl refl refl refl (h .status) (h .address) (h .fc) (h .ec) h

@@ -20,46 +20,45 @@ use Rattle.model.specs.declared.Exchange.{Exchange}
 use Rattle.model.specs.declared.Exchange.the-variants.{Idle, Waiting, Done}
 use Rattle.model.specs.declared.Times.{Times}
 use Rattle.model.specs.declared.Counts.{Counts}
-use Rattle.model.specs.declared.Device.{Device}
 use Rattle.model.specs.declared.Controller.{Controller}
 use Rattle.model.specs.Layout.{Areas}
-use Rattle.model.specs.Ports.{codeOf, View}
-use Rattle.model.specs.Shape.{refilled}
-use Rattle.model.specs.Event.{World, asMaster, asSlave, asHeard, heard, heardBy, isBad, judgedOne, countsAfter, timesAfter}
-use Rattle.model.specs.Event.{hearController, hearEffect, hearAnswer}
+use Rattle.model.specs.Ports.{codeOf, Standing}
+use Rattle.model.specs.Event.{World, asMaster, asSlave, asHeard, heard, heardBy, isBad, judgedOne}
 use Rattle.model.specs.Quiet.{times}
-use Rattle.model.specs.Host.{status}
-use Rattle.model.specs.Calls.{Call, hear, effect, step, answer}
-use Rattle.model.specs.Past.{after, Typed, onTrusted, lastSet, chosenIn, awaited, answers, Opening, openingOf, answersSince}
-use Rattle.model.specs.Past.{writesSince, lastOf, viewWith, toldView, lastStatus, judgedAs, judgement, addJudged, addUnsound}
-use Rattle.model.specs.Past.{countSince, framesJudged, framesUnsound}
-use Rattle.model.proofs.Shape.{shape-apply}
+use Rattle.model.specs.Host.{status, address}
+use Rattle.model.specs.Calls.{Call, hear, effect, step}
+use Rattle.model.specs.Past.{after, Typed, onTrusted, firstWord, awaited, answers, Opening, openingOf, answersSince, lastSettings}
+use Rattle.model.specs.Past.{writesSince, lastOf, judgedAs, judgement, addJudged, addUnsound, countSince, framesJudged}
+use Rattle.model.specs.Past.{framesUnsound}
+use Rattle.model.proofs.ToldPort.{standingWith, toldStanding}
+use Rattle.model.proofs.Shape.{refill}
+use Rattle.model.proofs.Tables.{countsAfter, timesAfter, hear-controller, hear-effect}
+use Rattle.model.proofs.ShapeKept.{shape-apply}
 use Rattle.model.proofs.Waits.{waitNow, Live, waits-now, waits-heard, live-heard}
-use Rattle.model.proofs.Taken.{takenIf, taken-exactly, valid-heard}
+use Rattle.model.proofs.Taken.{takenBy, taken-exactly, valid-heard}
 use Rattle.model.proofs.Holds.{Holds}
+use Rattle.model.proofs.Replies.{statusNow, exact-told}
 
 -- ---- the invariant
 
-abbrev pub statusNow : Device → Option ℕ
-statusNow d = cond (d .set) (some (d .status)) none
-
 pub record Told (past : List Call) (c : Controller) (m : Areas) : Type 0 where
-  pub holds : Holds (awaited past) (λ a. toldView past a (openingOf past a)) (c .exchange) (c .times) m
-  pub chosen : c .times .chosen ≡ chosenIn past
-  pub some-time : 0 < chosenIn past
-  pub short-time : chosenIn past ≤ 128
-  pub status : statusNow (c .device) ≡ lastStatus past
+  pub holds : Holds (awaited past) (λ a. toldStanding past a (openingOf past a)) (c .exchange) (c .times) m
+  pub chosen : c .times .chosen ≡ lastSettings past .replyTime
+  pub some-time : 0 < lastSettings past .replyTime
+  pub short-time : lastSettings past .replyTime ≤ 128
+  pub status : statusNow (c .device) ≡ lastSettings past .status
+  pub address : c .device .address ≡ lastSettings past .address
   pub fc : c .counts .fc ≡ framesJudged past % 65536
   pub ec : c .counts .ec ≡ min (framesUnsound past) 65535
 
 -- ---- a bus event
 
 -- one more of the frames that fill a sink
-hear-view : (past : List Call) (x y : Hearing) (a : ℕ) (o : Option Opening)
-    → takenIf (answers past x y) (wordsOf (onTrusted past x y)) (toldView past a o) ≡ toldView (hear x y ∷ past) a o
+hear-standing : (past : List Call) (x y : Hearing) (a : ℕ) (o : Option Opening)
+    → takenBy (answers past x y) (wordsOf (onTrusted past x y)) (toldStanding past a o) ≡ toldStanding (hear x y ∷ past) a o
 unfolding answersSince writesSince
-hear-view past x y a none = refl
-hear-view past x y a (some o) = go (o .sink) (answers past x y (o .word))
+hear-standing past x y a none = refl
+hear-standing past x y a (some o) = go (o .sink) (answers past x y (o .word))
   where
     ws : List ℕ
     ws = wordsOf (onTrusted past x y)
@@ -71,11 +70,11 @@ hear-view past x y a (some o) = go (o .sink) (answers past x y (o .word))
     wr = writesSince past a
 
     go : (b c : Bool)
-        → _≡_ {A = Option View}
-        (some (cond (b && c) (refilled ws (viewWith o (lastOf (cond b ss wr)) (length (cond b ss wr) % 65536)))
-        (viewWith o (lastOf (cond b ss wr)) (length (cond b ss wr) % 65536))))
-        (some (viewWith o (lastOf (cond b (cond c (ws ∷ ss) ss) wr)) (length (cond b (cond c (ws ∷ ss) ss) wr) % 65536)))
-    go true true = ap (λ (n : ℕ). some (viewWith o (some ws) n)) (omega arith)
+        → _≡_ {A = Option Standing}
+        (some (cond (b && c) (refill ws (standingWith o (lastOf (cond b ss wr)) (length (cond b ss wr) % 65536)))
+        (standingWith o (lastOf (cond b ss wr)) (length (cond b ss wr) % 65536))))
+        (some (standingWith o (lastOf (cond b (cond c (ws ∷ ss) ss) wr)) (length (cond b (cond c (ws ∷ ss) ss) wr) % 65536)))
+    go true true = ap (λ (n : ℕ). some (standingWith o (some ws) n)) (omega arith)
     go true false = refl
     go false c = refl
 
@@ -143,7 +142,7 @@ ToldBy past s = Told past (s .controller) (s .areas)
 
 pub hear-told : (past : List Call) (a b : Hearing) → Typed (hear a b) → ToldBy past (after past)
     → ToldBy (hear a b ∷ past) (step (hear a b) (after past))
-unfolding step effect hearController hearEffect heardBy heard answer hearAnswer awaited answers chosenIn lastStatus judgement framesJudged framesUnsound openingOf lastSet countSince
+unfolding step effect heardBy heard awaited answers judgement framesJudged framesUnsound openingOf countSince lastSettings
 hear-told past a b ty h =
     let s = after past in
     let c = s .controller in
@@ -155,13 +154,14 @@ hear-told past a b ty h =
     let n = counts-heard (c .counts) (framesJudged past) (framesUnsound past) (h .fc) (h .ec) k t (k .kind) x (H .live) in
     let p : 0 < t .chosen = rw (h .chosen) (h .some-time) in
     let q : t .chosen ≤ 128 = rw (h .chosen) (h .short-time) in
-    record {
+    rw (hear-controller s a b, hear-effect s a b)
+    (record {
       holds = record {
         shape = shape-apply _ (s .areas) (H .shape) (valid-heard (s .areas) k l (k .kind) x);
-        views =
+        stands =
             λ e. taken-exactly (s .areas) (H .shape) k l (k .kind) x t (H .live) e
-            ∙ rw (H .waits 0, H .views e) (hear-view past a b e (openingOf past e));
-        waits = λ e. waits-heard (c .device) (s .areas) t k (k .kind) x e ∙ rw (H .waits e, h .chosen);
+            ∙ rw (H .waits 0, H .stands e) (hear-standing past a b e (openingOf past e));
+        waits = λ e. waits-heard (c .device) (s .areas) t k (k .kind) x e ∙ rw (exact-told past (c .device) (s .areas) (H .stands) (firstWord k) (h .status) (h .address), H .waits e, h .chosen);
         live = live-heard (c .device) (s .areas) t k (k .kind) x p (H .live);
         short = short-heard t k (k .kind) x (H .short) q;
       };
@@ -169,6 +169,7 @@ hear-told past a b ty h =
       some-time = h .some-time;
       short-time = h .short-time;
       status = h .status;
+      address = h .address;
       fc = rw (H .waits 0) at (n .0);
       ec = rw (H .waits 0) at (n .1);
-    }
+    })

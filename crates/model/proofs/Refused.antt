@@ -2,30 +2,15 @@
 -- unchanged. Assumes nothing.
 use Prim.Native.Nat.{ℕ, _<_}
 use mathlib.Core.Path.{_≡_, refl}
-use mathlib.Core.Logic.{_⊎_, inl, inr}
+use mathlib.Core.Logic.{_⊎_, inl, inr, _↔_}
 use mathlib.Core.Bool.{Bool, true, false, cond}
 use mathlib.Core.List.{List, [], _∷_}
 use mathlib.Core.Option.{none}
 use native.Mathlib.Omega.{arith}
 use borrow.Author.Tests.{ne-eqb}
 use Rattle.model.specs.Event.{World, spoken}
-use Rattle.model.specs.Calls.{Call, badArea, outOfRange, badEntry, noPort, isTaken, badWords, wrongSide, wrongSize}
-use Rattle.model.specs.Calls.{Test, tests, firstOf, refusal, outcome}
-
--- no test of the list holds
-abbrev pub Silent : List Test → Type 0
-Silent [] = Unit
-Silent (t ∷ ts) = (t .given ≡ false) × Silent ts
-
--- each test has a number
-abbrev pub Numbered : List Test → Type 0
-Numbered [] = Unit
-Numbered (t ∷ ts) = (0 < t .number) × Numbered ts
-
--- the first test of the list that holds has this number
-pub data First : List Test → ℕ → Type 0 where
-  here : {t : Test} {ts : List Test} → t .given ≡ true → First (t ∷ ts) (t .number)
-  later : {t : Test} {ts : List Test} {n : ℕ} → t .given ≡ false → First ts n → First (t ∷ ts) n
+use Rattle.model.specs.Calls.{Call, TestName, badArea, outOfRange, badEntry, noPort, isTaken, badWords, wrongSide, wrongSize}
+use Rattle.model.specs.Calls.{refusalNumber, Test, tests, firstOf, refusal, outcome, name-discrete, Silent, First, here, later}
 
 -- what `firstOf` says: no test holds, or the number is that of the first that does
 pub tells : (ts : List Test) → ((firstOf ts ≡ 0) × Silent ts) ⊎ First ts (firstOf ts)
@@ -33,7 +18,7 @@ tells [] = inl (refl, tt)
 tells (t ∷ ts) = go (t .given) refl (tells ts)
   where
     go : (b : Bool) → t .given ≡ b → ((firstOf ts ≡ 0) × Silent ts) ⊎ First ts (firstOf ts)
-        → ((cond b (t .number) (firstOf ts) ≡ 0) × ((t .given ≡ false) × Silent ts)) ⊎ First (t ∷ ts) (cond b (t .number) (firstOf ts))
+        → ((cond b (refusalNumber (t .name)) (firstOf ts) ≡ 0) × ((t .given ≡ false) × Silent ts)) ⊎ First (t ∷ ts) (cond b (refusalNumber (t .name)) (firstOf ts))
     go true e r = inr (here e)
     go false e (inl s) = inl (s .0, (e, s .1))
     go false e (inr f) = inr (later e f)
@@ -47,51 +32,60 @@ pub silent-zero : (ts : List Test) → Silent ts → firstOf ts ≡ 0
 silent-zero [] s = refl
 silent-zero (t ∷ ts) s = rw (s .0) (silent-zero ts (s .1))
 
-positive : {ts : List Test} {n : ℕ} → Numbered ts → First ts n → 0 < n
-positive n (here e) = n .0
-positive n (later e f) = positive (n .1) f
+-- each test has a number
+numbered : (k : TestName) → 0 < refusalNumber k
+numbered badArea = omega arith
+numbered outOfRange = omega arith
+numbered badEntry = omega arith
+numbered noPort = omega arith
+numbered isTaken = omega arith
+numbered badWords = omega arith
+numbered wrongSide = omega arith
+numbered wrongSize = omega arith
 
-pub zero-silent : (ts : List Test) → Numbered ts → firstOf ts ≡ 0 → Silent ts
-zero-silent ts n e = go (tells ts)
+positive : {ts : List Test} {n : ℕ} → First ts n → 0 < n
+positive (here {t} e) = numbered (t .name)
+positive (later e f) = positive f
+
+pub zero-silent : (ts : List Test) → firstOf ts ≡ 0 → Silent ts
+zero-silent ts e = go (tells ts)
   where
     go : ((firstOf ts ≡ 0) × Silent ts) ⊎ First ts (firstOf ts) → Silent ts
     go (inl s) = s .1
-    go (inr f) = let p = positive n f in absurd (omega arith)
+    go (inr f) = let p = positive f in absurd (omega arith)
 
-numbered : (c : Call) (s : World) → Numbered (tests c s)
-numbered c s = omega arith
+-- ---- a test by its name
 
--- every test by its name, and none holds
-pub record Passed (c : Call) (s : World) : Type 0 where
-  pub fits : badArea c s ≡ false
-  pub range : outOfRange c ≡ false
-  pub entry : badEntry c s ≡ false
-  pub port : noPort c s ≡ false
-  pub free : isTaken c s ≡ false
-  pub formed : badWords c s ≡ false
-  pub side : wrongSide c s ≡ false
-  pub size : wrongSize c s ≡ false
+abbrev same : {x y : TestName} → Dec (x ≡ y) → Bool
+same (yes e) = true
+same (no n) = false
 
--- A call is accepted exactly when no test holds.
-pub accepted : (c : Call) (s : World) → refusal c s ≡ 0 → Passed c s
+-- what the test of this name says, where the list has one
+abbrev pub holds : TestName → List Test → Bool
+holds k [] = false
+holds k (t ∷ ts) = cond (same (name-discrete (t .name) k)) (t .given) (holds k ts)
+
+by-name : (ts : List Test) → Silent ts → (k : TestName) → holds k ts ≡ false
+by-name [] s k = refl
+by-name (t ∷ ts) s k = go (same (name-discrete (t .name) k)) (by-name ts (s .1) k)
+  where
+    go : (b : Bool) → holds k ts ≡ false → cond b (t .given) (holds k ts) ≡ false
+    go true e = s .0
+    go false e = e
+
+-- A call is accepted exactly when none of its tests holds.
+pub accepted-exactly : (c : Call) (s : World) → (refusal c s ≡ 0) ↔ Silent (tests c s)
 unfolding refusal
-accepted c s e =
-    let t = zero-silent (tests c s) (numbered c s) e in
-    record {
-      fits = t .0;
-      range = t .1 .0;
-      entry = t .1 .1 .0;
-      port = t .1 .1 .1 .0;
-      free = t .1 .1 .1 .1 .0;
-      formed = t .1 .1 .1 .1 .1 .0;
-      side = t .1 .1 .1 .1 .1 .1 .0;
-      size = t .1 .1 .1 .1 .1 .1 .1 .0;
-    }
+accepted-exactly c s = (zero-silent (tests c s), silent-zero (tests c s))
 
-pub accepts : (c : Call) (s : World) → Passed c s → refusal c s ≡ 0
+-- the same of a test by its name
+pub accepted : (c : Call) (s : World) → refusal c s ≡ 0 → (k : TestName) → holds k (tests c s) ≡ false
 unfolding refusal
-accepts c s p =
-    silent-zero (tests c s) (p .fits, (p .range, (p .entry, (p .port, (p .free, (p .formed, (p .side, (p .size, tt))))))))
+accepted c s e = by-name (tests c s) (zero-silent (tests c s) e)
+
+pub accepts : (c : Call) (s : World) → Silent (tests c s) → refusal c s ≡ 0
+unfolding refusal
+accepts c s p = silent-zero (tests c s) p
 
 -- A call is refused with n exactly when the first test that holds, in document 01's order, has the number n.
 pub refused : (c : Call) (s : World) (n : ℕ) → First (tests c s) n → refusal c s ≡ n
@@ -112,5 +106,5 @@ pub refusal-changes-nothing : (c : Call) (s : World) (n : ℕ) → First (tests 
     → outcome c s ≡ record { refusal = n; reply = spoken none; world = s }
 unfolding outcome
 refusal-changes-nothing c s n f =
-    let p = positive (numbered c s) f in
+    let p = positive f in
     rw (refused c s n f, ne-eqb n 0 (λ e. omega arith))

@@ -11,27 +11,23 @@ use lib.ListN.{length, getD, drop, replicate, length-drop, length-replicate}
 use lib.Seq.{length-take-le}
 use borrow.Author.Tests.{eq-eqb, eqb-true, ne-eqb, leb-true}
 use Rattle.sequence.specs.Frame.{blocks, byteAt, frameChecks}
-use Rattle.frames.specs.declared.Expected.{Expected}
-use Rattle.frames.specs.declared.Expected.the-variants.{Words as Expects, NoReply}
 use Rattle.frames.specs.declared.Judgement.the-variants.{Sound}
 use Rattle.frames.specs.Hearing.{wordsOf}
 use Rattle.frames.specs.Size.{sizes, expectedOf}
 use Rattle.frames.specs.Judge.{countsRight, rightAt, checksRight, judged, judgedSlave}
 use Rattle.frames.proofs.Judged.{right-byte}
 use Rattle.frames.proofs.Sizes.{longest}
-use Rattle.model.specs.Layout.{Areas, portAt, flagsOf, partOf}
-use Rattle.model.specs.Ports.{codeOf, addressOf, hasPorts, sizeOf, validPage, View, viewOf, view}
-use Rattle.model.specs.Shape.{Shape}
+use Rattle.model.specs.Layout.{Areas, areasFit, portAt, flagsOf, partOf}
+use Rattle.model.specs.Ports.{codeOf, addressOf, hasPorts, sizeOf, validPage, Standing, standingOf, standing}
 use Rattle.model.specs.declared.Device.{Device}
 use Rattle.model.specs.Event.{openFor, portFor, ifSource, sourceFor, pollsUs, ownWords, ifExpected, answerTo, sent}
 use Rattle.model.specs.Calls.{Call}
-use Rattle.model.specs.Past.{Opening, openingOf, writesSince, lastOf, fillings, viewWith, toldView, lastStatus, sourceTold}
-use Rattle.model.specs.Past.{statusTold}
+use Rattle.model.specs.Past.{Opening, openingOf, writesSince, lastOf, fillings, sourceTold, lastSettings, statusTold, replyTold}
+use Rattle.model.proofs.ToldPort.{standingWith, toldStanding}
 use Rattle.model.proofs.Accepted.{both-hold, port-open}
-use Rattle.model.proofs.Invariant.{statusNow}
 use Rattle.model.proofs.Stored.{stored-part}
 use Rattle.model.proofs.Formed.{lengths, size-small}
-use Rattle.model.proofs.Views.{view-at}
+use Rattle.model.proofs.Standings.{standing-at}
 
 silent : {ws : List ℕ} → none ≡ some ws → ⊥
 silent e = let z : _≡_ {A = ℕ} 0 1 = cc in omega arith
@@ -50,7 +46,7 @@ unfolding wordsOf sent
 sent-words ws h = stored-part (replicate 16 0) 0 ws (omega (arith, length-replicate {A = ℕ} 16 0))
 
 -- The frame that is sent for words of the expected size is a sound slave frame.
-pub sent-sound : (code n : ℕ) (ws : List ℕ) → expectedOf code ≡ Expects n → length ws ≡ n → judgedSlave code (sent ws) ≡ Sound
+pub sent-sound : (code n : ℕ) (ws : List ℕ) → expectedOf code ≡ some n → length ws ≡ n → judgedSlave code (sent ws) ≡ Sound
 unfolding judgedSlave judged countsRight sent checksRight frameChecks
 sent-sound code n ws e l =
     let short : length ws ≤ 16 = omega (arith, longest code n e) in
@@ -68,23 +64,23 @@ sent-sound code n ws e l =
 
 -- ---- the words of a port have its size
 
-part-size : (page : List ℕ) (p n : ℕ) → length page ≡ 4096 → p ≤ 255 → n ≤ 16 → length (partOf page p n) ≡ n
+pub part-size : (page : List ℕ) (p n : ℕ) → length page ≡ 4096 → p ≤ 255 → n ≤ 16 → length (partOf page p n) ≡ n
 unfolding partOf
 part-size page p n l h k = length-take-le n (drop (16 * p) page) (omega (arith, length-drop (16 * p) page))
 
 -- The words that an address shows have the size of its F-code.
-pub shown-size : (m : Areas) (a : ℕ) (v : View) → Shape m → view m a ≡ some v → (ws : List ℕ) → v .shows ≡ some ws
+pub shown-size : (m : Areas) (a : ℕ) (v : Standing) → areasFit m ≡ true → standing m a ≡ some v → (ws : List ℕ) → v .shows ≡ some ws
     → length ws ≡ sizeOf (codeOf (v .word))
-unfolding viewOf
+unfolding standingOf
 shown-size m a v s e ws q =
-    let at = view-at m a v e in
+    let at = standing-at m a v e in
     let p = v .port in
     let f = flagsOf (portAt m p .flags) in
-    go (f .ever) (ap (λ (x : View). x .word) (at .whole)) (sym (ap (λ (x : View). x .shows) (at .whole)) ∙ q) (either (f .vp))
+    go (f .ever) (ap (λ (x : Standing). x .word) (at .whole)) (sym (ap (λ (x : Standing). x .shows) (at .whole)) ∙ q) (either (f .vp))
   where
     either : (b : Bool) → length (cond b (m .page1) (m .page0)) ≡ 4096
-    either true = lengths m (s .fits) .page1
-    either false = lengths m (s .fits) .page0
+    either true = lengths m s .page1
+    either false = lengths m s .page0
 
     go : (b : Bool) → v .word ≡ portAt m (v .port) .master
         → cond b
@@ -93,14 +89,14 @@ shown-size m a v s e ws q =
     go true ew es l =
         let r : partOf (validPage m (flagsOf (portAt m (v .port) .flags))) (v .port) (sizeOf (codeOf (portAt m (v .port) .master))) ≡ ws =
         cc in
-        ap length (sym r) ∙ part-size _ (v .port) _ l (view-at m a v e .small) (size-small (codeOf (portAt m (v .port) .master)))
+        ap length (sym r) ∙ part-size _ (v .port) _ l (standing-at m a v e .small) (size-small (codeOf (portAt m (v .port) .master)))
         ∙ ap (λ (w : ℕ). sizeOf (codeOf w)) (sym ew)
     go false ew es l = absurd (silent es)
 
 -- ---- what is answered to a sound master frame
 
 -- F-codes 0 to 4 expect a reply
-pub expected-port : (code : ℕ) → code ≤ 4 → (n : ℕ) × (expectedOf code ≡ Expects n)
+pub expected-port : (code : ℕ) → code ≤ 4 → (n : ℕ) × (expectedOf code ≡ some n)
 unfolding expectedOf sizes
 expected-port zero h = (1, refl)
 expected-port (suc zero) h = (2, refl)
@@ -110,15 +106,15 @@ expected-port (suc (suc (suc (suc zero)))) h = (16, refl)
 expected-port (suc (suc (suc (suc (suc c))))) h = absurd (omega arith)
 
 -- and so does a status poll
-pub poll-expects : expectedOf 15 ≡ Expects 1
+pub poll-expects : expectedOf 15 ≡ some 1
 unfolding expectedOf sizes
 poll-expects = refl
 
 -- the words of the source for w have the size of its code
-source-size : (m : Areas) (w : ℕ) → Shape m → (ws : List ℕ) → sourceFor m w ≡ some ws → length ws ≡ sizeOf (codeOf w)
+source-size : (m : Areas) (w : ℕ) → areasFit m ≡ true → (ws : List ℕ) → sourceFor m w ≡ some ws → length ws ≡ sizeOf (codeOf w)
 source-size m w s ws e = go (portFor m w) refl e
   where
-    go : (o : Option View) → portFor m w ≡ o → ifSource o ≡ some ws → length ws ≡ sizeOf (codeOf w)
+    go : (o : Option Standing) → portFor m w ≡ o → ifSource o ≡ some ws → length ws ≡ sizeOf (codeOf w)
     go none eo ei = absurd (silent ei)
     go (some v) eo ei = by (v .sink) ei
       where
@@ -129,21 +125,21 @@ source-size m w s ws e = go (portFor m w) refl e
             shown-size m (addressOf w) v s (at .0) ws q ∙ ap (λ (x : ℕ). sizeOf (codeOf x)) (at .1)
 
 -- What is answered to a sound master frame is a sound slave frame for its code.
-pub answer-sound : (d : Device) (m : Areas) (w : ℕ) → Shape m → (ws : List ℕ) → answerTo d m w ≡ some ws
+pub answer-sound : (d : Device) (m : Areas) (w : ℕ) → areasFit m ≡ true → (ws : List ℕ) → answerTo d m w ≡ some ws
     → judgedSlave (codeOf w) (sent ws) ≡ Sound
 unfolding answerTo sizeOf
 answer-sound d m w s ws e = go (expectedOf (codeOf w)) refl (sourceFor m w) refl e
   where
-    sized : (n : ℕ) → expectedOf (codeOf w) ≡ Expects n → sizeOf (codeOf w) ≡ n
+    sized : (n : ℕ) → expectedOf (codeOf w) ≡ some n → sizeOf (codeOf w) ≡ n
     sized n ex = rw ex
 
-    go : (x : Expected) → expectedOf (codeOf w) ≡ x → (o : Option (List ℕ)) → sourceFor m w ≡ o → ifExpected x (ownWords d w o) ≡ some ws
+    go : (x : Option ℕ) → expectedOf (codeOf w) ≡ x → (o : Option (List ℕ)) → sourceFor m w ≡ o → ifExpected x (ownWords d w o) ≡ some ws
         → judgedSlave (codeOf w) (sent ws) ≡ Sound
-    go NoReply ex o eo ei = absurd (silent ei)
-    go (Expects n) ex (some r) eo ei =
+    go none ex o eo ei = absurd (silent ei)
+    go (some n) ex (some r) eo ei =
         let q : r ≡ ws = cc in
         sent-sound (codeOf w) n ws ex (source-size m w s ws (eo ∙ ei) ∙ sized n ex)
-    go (Expects n) ex none eo ei = status (eqb (codeOf w) 15) refl (eqb (addressOf w) (d .address)) (d .set) ei
+    go (some n) ex none eo ei = status (eqb (codeOf w) 15) refl (eqb (addressOf w) (d .address)) (d .set) ei
       where
         status : (b : Bool) → eqb (codeOf w) 15 ≡ b → (c k : Bool) → cond (b && c && k) (some (d .status ∷ [])) none ≡ some ws
             → judgedSlave (codeOf w) (sent ws) ≡ Sound
@@ -156,12 +152,15 @@ answer-sound d m w s ws e = go (expectedOf (codeOf w)) refl (sourceFor m w) refl
 
 -- ---- the answer, from the past
 
-module _ (past : List Call) (d : Device) (m : Areas) (views : (a : ℕ) → view m a ≡ toldView past a (openingOf past a)) where
+abbrev pub statusNow : Device → Option ℕ
+statusNow d = cond (d .set) (some (d .status)) none
+
+module _ (past : List Call) (d : Device) (m : Areas) (stands : (a : ℕ) → standing m a ≡ toldStanding past a (openingOf past a)) where
   source-told : (w : ℕ) → hasPorts (codeOf w) ≡ true → sourceFor m w ≡ sourceTold past w (openingOf past (addressOf w))
   unfolding portFor
-  source-told w p = rw (p, views (addressOf w)) (go (openingOf past (addressOf w)))
+  source-told w p = rw (p, stands (addressOf w)) (go (openingOf past (addressOf w)))
     where
-      go : (o : Option Opening) → ifSource (openFor w (toldView past (addressOf w) o)) ≡ sourceTold past w o
+      go : (o : Option Opening) → ifSource (openFor w (toldStanding past (addressOf w) o)) ≡ sourceTold past w o
       go none = refl
       go (some o) = by (eqb (o .word) w) (o .sink) refl
         where
@@ -169,7 +168,7 @@ module _ (past : List Call) (d : Device) (m : Areas) (views : (a : ℕ) → view
           wr = writesSince past (addressOf w)
 
           by : (b c : Bool) → o .sink ≡ c
-              → ifSource (cond b (some (viewWith o (lastOf (fillings past (addressOf w) o)) (length (fillings past (addressOf w) o) % 65536))) none)
+              → ifSource (cond b (some (standingWith o (lastOf (fillings past (addressOf w) o)) (length (fillings past (addressOf w) o) % 65536))) none)
               ≡ cond (b && not c) (lastOf wr) none
           by true true e = rw e
           by true false e = rw e
@@ -188,7 +187,7 @@ module _ (past : List Call) (d : Device) (m : Areas) (views : (a : ℕ) → view
       own (some ws) = refl
 
   -- A status poll to our address is answered with the status word last set, or not at all.
-  pub status-told : (w : ℕ) → pollsUs d w ≡ true → statusNow d ≡ lastStatus past → answerTo d m w ≡ statusTold (lastStatus past)
+  pub status-told : (w : ℕ) → pollsUs d w ≡ true → statusNow d ≡ lastSettings past .status → answerTo d m w ≡ statusTold (lastSettings past .status)
   unfolding answerTo portFor
   status-told w p e =
       let q = both-hold _ _ p in
@@ -198,3 +197,27 @@ module _ (past : List Call) (d : Device) (m : Areas) (views : (a : ℕ) → view
       go : (b : Bool) → cond b (some (d .status ∷ [])) none ≡ statusTold (cond b (some (d .status)) none)
       go true = refl
       go false = refl
+
+  -- no port, no poll to our address: no answer
+  unpolled : (w : ℕ) → hasPorts (codeOf w) ≡ false → pollsUs d w ≡ false → answerTo d m w ≡ none
+  unfolding answerTo portFor
+  unpolled w n p = rw (n, p) (quiet (expectedOf (codeOf w)))
+    where
+      quiet : (x : Option ℕ) → ifExpected x none ≡ none
+      quiet (some k) = refl
+      quiet none = refl
+
+  -- A sound master frame of any code is answered as the past tells, and not otherwise.
+  pub exact-told : (w : ℕ) → statusNow d ≡ lastSettings past .status → d .address ≡ lastSettings past .address → answerTo d m w ≡ replyTold past w
+  unfolding replyTold
+  exact-told w e l = go (hasPorts (codeOf w)) refl
+    where
+      polled : (b : Bool) → pollsUs d w ≡ b → hasPorts (codeOf w) ≡ false → answerTo d m w ≡ cond b (statusTold (lastSettings past .status)) none
+      polled true p n = status-told w p e
+      polled false p n = unpolled w n p
+
+      go : (b : Bool) → hasPorts (codeOf w) ≡ b
+          → answerTo d m w ≡ cond b (sourceTold past w (openingOf past (addressOf w)))
+          (cond (eqb (codeOf w) 15 && eqb (addressOf w) (lastSettings past .address)) (statusTold (lastSettings past .status)) none)
+      go true p = data-told w p
+      go false p = polled (eqb (codeOf w) 15 && eqb (addressOf w) (lastSettings past .address)) (rw l) p

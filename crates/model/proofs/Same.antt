@@ -13,33 +13,33 @@ use Rattle.model.specs.declared.Controller.{Controller}
 use Rattle.model.specs.declared.Heard.{Heard}
 use Rattle.model.specs.declared.Heard.the-variants.{Nothing, Unsound, Master, Reply, Stray}
 use Rattle.model.specs.Layout.{Areas, entry}
-use Rattle.model.specs.Ports.{addressOf, View, view, Effect, fill, closed, apply}
-use Rattle.model.specs.Shape.{Shape, Valid, viewAfter}
+use Rattle.model.specs.Ports.{addressOf, Standing, standing, Effect, fill, closed, apply}
 use Rattle.model.specs.Lines.{trusted}
 use Rattle.model.specs.declared.Lines.{Lines}
 use Rattle.model.specs.Host.{device, Setting, address, status, replyTime, slm, ls, clearEC, reset, group0, group1, tell}
 use Rattle.model.specs.Calls.{Call, hear, quiet, openPort, closePort, writePort, readPort, setting, refusal, effect, step}
 use Rattle.model.specs.Past.{Typed}
 use Rattle.model.specs.Damage.{HeardAlike}
+use Rattle.model.specs.Event.{world, World, portFor, answerTo, exchangeFor, heard, heardBy, asHeard}
+use Rattle.model.specs.Quiet.{times, expired, due, effectLater, exchangeLater, timesLater, tickEffect, tickController, tick, ticks}
+use Rattle.model.proofs.Shape.{Shape, Valid, standingAfter}
+use Rattle.model.proofs.Tables.{hear-controller, hear-effect, exchangeAfter, timesAfter, effectOf}
 use Rattle.model.proofs.Accepted.{valid-open, valid-close, valid-write}
 use Rattle.model.proofs.Taken.{valid-heard}
 use Rattle.model.proofs.Holds.{later-valid}
-use Rattle.model.specs.Event.{hearController, hearEffect, world, World, portFor, answerTo, exchangeFor, exchangeAfter, timesAfter}
-use Rattle.model.specs.Event.{effectOf, heard, heardBy, asHeard}
-use Rattle.model.specs.Quiet.{times, expired, due, effectLater, exchangeLater, timesLater, tickEffect, tickController, tick, ticks}
-use Rattle.model.proofs.Views.{view-at, none-entry}
-use Rattle.model.proofs.Shape.{shape-apply, view-apply}
+use Rattle.model.proofs.Standings.{standing-at, none-entry}
+use Rattle.model.proofs.ShapeKept.{shape-apply, standing-apply}
 
 -- two areas whose addresses show the same
 pub record Alike (m n : Areas) : Type 0 where
   pub shape : Shape m
   pub shape′ : Shape n
-  pub views : (a : ℕ) → view m a ≡ view n a
+  pub stands : (a : ℕ) → standing m a ≡ standing n a
 
 module _ (m n : Areas) (k : Alike m n) where
   pub same-port : (w : ℕ) → portFor m w ≡ portFor n w
   unfolding portFor
-  same-port w = rw (k .views (addressOf w))
+  same-port w = rw (k .stands (addressOf w))
 
   pub same-answer : (d : Device) (w : ℕ) → answerTo d m w ≡ answerTo d n w
   unfolding answerTo
@@ -66,12 +66,12 @@ module _ (m n : Areas) (k : Alike m n) where
 
   -- the same entries
   pub same-entry : (a : ℕ) → entry m a ≡ entry n a
-  same-entry a = go (view m a) refl
+  same-entry a = go (standing m a) refl
     where
-      go : (o : Option View) → view m a ≡ o → entry m a ≡ entry n a
-      go none e = none-entry m a (k .shape) e ∙ sym (none-entry n a (k .shape′) (sym (k .views a) ∙ e))
+      go : (o : Option Standing) → standing m a ≡ o → entry m a ≡ entry n a
+      go none e = none-entry m a (k .shape) e ∙ sym (none-entry n a (k .shape′) (sym (k .stands a) ∙ e))
       go (some v) e =
-          sym (view-at m a v e .port) ∙ view-at n a v (sym (k .views a) ∙ e) .port
+          sym (standing-at m a v e .port) ∙ standing-at n a v (sym (k .stands a) ∙ e) .port
 
   -- one effect on both
   pub alike-apply : (e : Effect) → Valid m e → Valid n e → Alike (apply e m) (apply e n)
@@ -79,7 +79,7 @@ module _ (m n : Areas) (k : Alike m n) where
       record {
         shape = shape-apply e m (k .shape) p;
         shape′ = shape-apply e n (k .shape′) q;
-        views = λ a. view-apply e m a (k .shape) p ∙ ap (viewAfter e a) (k .views a) ∙ sym (view-apply e n a (k .shape′) q);
+        stands = λ a. standing-apply e m a (k .shape) p ∙ ap (standingAfter e a) (k .stands a) ∙ sym (standing-apply e n a (k .shape′) q);
       }
 
   pub alike-effects : {e f : Effect} → e ≡ f → Valid m e → Valid n f → Alike (apply e m) (apply f n)
@@ -115,9 +115,16 @@ module _ (s u : World) (k : Same s u) where
   E = u .controller
 
   same-hear : (y : Hearing) → length (y .words) ≡ 16 → Same (step (hear y y) s) (step (hear y y) u)
-  unfolding step effect hearController hearEffect heardBy heard
+  unfolding step effect heardBy heard
   same-hear y l =
-      rw (either-line (C .lines) y, either-line (E .lines) y)
+      rw (
+        hear-controller s y y,
+        hear-controller u y y,
+        hear-effect s y y,
+        hear-effect u y y,
+        either-line (C .lines) y,
+        either-line (E .lines) y,
+      )
       (record {
         areas = alike-effects M N (k .areas)
             (same-effect M N (k .areas) (asHeard (y .kind) (C .exchange) y) y ∙ ap (λ (x : Exchange). effectOf N (asHeard (y .kind) x y) y) (k .exchange))
@@ -128,10 +135,10 @@ module _ (s u : World) (k : Same s u) where
         device = k .device;
       })
 
-  same-due : due s ≡ due u
+  pub same-due : due s ≡ due u
   same-due = ap₂ expired (k .exchange) (k .times)
 
-  same-tick : Same (tick s) (tick u)
+  pub same-tick : Same (tick s) (tick u)
   unfolding tick tickController tickEffect
   same-tick =
       record {

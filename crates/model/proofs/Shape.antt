@@ -1,194 +1,76 @@
--- From cleared areas on, every effect keeps the shape of the areas, and does to the view of an address what `viewAfter` says. Each effect
--- is a change at one address and its own port; what that port shows is then read off its words. Assumes nothing.
-use Prim.Native.Nat.{ℕ, zero, suc, _+_, _*_, _≤_, _<_}
-use mathlib.Core.Path.{_≡_, refl, sym, _∙_, ap}
-use mathlib.Core.Logic.{_≢_, inl, inr, dite}
-use mathlib.Core.Bool.{Bool, true, false, cond, not}
+-- The shape that our calls give the areas: from cleared areas that only our calls change, every address has no port or a port with well
+-- formed words, and every port in use is the one of its address. What each effect needs to keep it, and what it does to what stands at an
+-- address. Assumes nothing.
+use Prim.Native.Nat.{ℕ, _+_, _%_, _≤_, _<_}
+use mathlib.Core.Path.{_≡_}
+use mathlib.Core.Logic.{_⊎_}
+use mathlib.Core.Bool.{Bool, true, cond}
 use mathlib.Core.List.{List}
 use mathlib.Core.Option.{Option, none, some}
-use native.Mathlib.Decide.{ℕ-discrete}
-use native.Mathlib.Omega.{arith}
-use borrow.Author.Tests.{eq-eqb, ne-eqb}
 use lib.Dec.{eqb}
-use lib.ListN.{length, getD, replicate}
+use lib.ListN.{length}
 use Rattle.model.specs.declared.Faults.{Faults}
-use Rattle.model.specs.Layout.{Areas, stride, areasFit, entry, place, wordsAt, portAt, flagsOf, partOf, withPart}
-use Rattle.model.specs.Ports.{codeOf, sizeOf, wellFormed, View, viewOf, view, turned, filledWords, faulty, markedWords, openWords}
-use Rattle.model.specs.Ports.{noWords, Effect, fill, mark, opened, closed, filled, apply}
-use Rattle.model.specs.Shape.{Shape, At, Valid, nothing, filling, marking, opening, closing, refilled, justOpened, refillIf}
-use Rattle.model.specs.Shape.{viewAfter}
-use Rattle.model.specs.Calls.{clearedAreas}
-use Rattle.model.proofs.Bits.{flags-of-word}
-use Rattle.model.proofs.Pages.{part-same}
-use Rattle.model.proofs.Formed.{lengths, formed, one-address, filled-formed, marked-formed, openFlags, open-formed, formed-used}
-use Rattle.model.proofs.Formed.{size-small}
-use Rattle.model.proofs.Views.{view-none, view-at}
-use Rattle.model.proofs.Change.{entry-kept, entry-set, part-kept, part-set, part-either, Own, Change, changed, shape-change}
-use Rattle.model.proofs.Change.{view-other, view-change, view-here}
+use Rattle.model.specs.Layout.{Areas, areasFit, entry, portAt}
+use Rattle.model.specs.Ports.{masterWord, codeOf, addressOf, sizeOf, wellFormed, Standing, standing, Effect, untouched, fill, mark}
+use Rattle.model.specs.Ports.{opened, closed}
 
--- ---- cleared areas
+-- the entry of address a leads to a port whose words are well formed for a
+pub record Leads (m : Areas) (a : ℕ) : Type 0 where
+  pub small : entry m a ≤ 255
+  pub formed : wellFormed a (portAt m (entry m a)) ≡ true
 
-zero-at : (n i : ℕ) → _≡_ {A = ℕ} (getD (replicate n 0) i 0) 0
-zero-at zero i = refl
-zero-at (suc n) zero = refl
-zero-at (suc n) (suc i) = zero-at n i
+pub record Shape (m : Areas) : Type 0 where
+  -- the areas have their lengths
+  pub fits : areasFit m ≡ true
+  -- an address has no entry, or its entry leads to a port
+  pub entries : (a : ℕ) → (entry m a ≡ 0) ⊎ Leads m a
+  -- word 1 of a port is 0, or the port is the one of its address
+  pub ports : (p : ℕ) → 0 < p → p ≤ 255 → (portAt m p .flags ≡ 0) ⊎ (entry m (addressOf (portAt m p .master)) ≡ p)
 
-cleared-entry : (a : ℕ) → entry clearedAreas a ≡ 0
-unfolding clearedAreas
-cleared-entry a = zero-at 4096 a
+-- port p stands open at address a, with the master word w
+pub record At (m : Areas) (a p w : ℕ) : Type 0 where
+  pub seen : Standing
+  pub there : standing m a ≡ some seen
+  pub port : seen .port ≡ p
+  pub word : seen .word ≡ w
 
-pub shape-cleared : Shape clearedAreas
-unfolding clearedAreas areasFit wordsAt
-shape-cleared =
+-- what an effect needs
+pub data Valid (m : Areas) : Effect → Type 0 where
+  nothing : Valid m untouched
+  -- a fill has the port's size
+  filling : {a p w : ℕ} {ws : List ℕ} → At m a p w → length ws ≡ sizeOf (codeOf w) → Valid m (fill p ws)
+  marking : {a p w : ℕ} {x : Faults} → At m a p w → Valid m (mark p x)
+  -- the address and the port are free
+  opening : {a p code : ℕ} {sink : Bool} {i : ℕ} → a < 4096 → 0 < p → p ≤ 255 → code ≤ 4 → i ≤ 7 → entry m a ≡ 0 → portAt m p .flags ≡ 0
+      → Valid m (opened a p code sink i)
+  closing : {a p w : ℕ} → At m a p w → Valid m (closed a p)
+
+-- a port that shows words, with one fill more
+abbrev pub refill : List ℕ → Standing → Standing
+refill ws v =
     record {
-      fits = refl;
-      entries = λ a. inl (cleared-entry a);
-      ports = λ p h few. inl (zero-at (stride * 256) (place p + 1));
+      port = v .port;
+      word = v .word;
+      sink = v .sink;
+      interrupt = v .interrupt;
+      shows = some ws;
+      fills = (v .fills + 1) % 65536;
     }
 
-pub view-cleared : (a : ℕ) → view clearedAreas a ≡ none
-view-cleared a = view-none clearedAreas a (cleared-entry a)
+-- a port just opened: it shows no words, and has no fills
+abbrev pub justOpened : ℕ → ℕ → ℕ → Bool → ℕ → Standing
+justOpened a p code sink i =
+    record { port = p; word = masterWord code a; sink = sink; interrupt = i; shows = none; fills = 0 }
 
--- ---- a port that stands open
+abbrev pub refillIf : ℕ → List ℕ → Option Standing → Option Standing
+refillIf p ws none = none
+refillIf p ws (some v) = some (cond (eqb (v .port) p) (refill ws v) v)
 
--- what is known where port p stands open at address a, with the master word w
-pub record Here (m : Areas) (a p w : ℕ) : Type 0 where
-  pub entry : entry m a ≡ p
-  pub positive : 0 < p
-  pub small : p ≤ 255
-  pub formed : wellFormed a (portAt m p) ≡ true
-  pub master : portAt m p .master ≡ w
-  pub view : view m a ≡ some (viewOf m p)
-
-pub at-here : {m : Areas} {a p w : ℕ} → At m a p w → Here m a p w
-unfolding viewOf
-at-here {m} {a} {p} {w} h =
-    let s = view-at m a (h .seen) (h .there) in
-    let whole : h .seen ≡ viewOf m p = s .whole ∙ ap (viewOf m) (h .port) in
-    record {
-      entry = sym (s .port) ∙ h .port;
-      positive = rw (h .port) at (s .positive);
-      small = rw (h .port) at (s .small);
-      formed = rw (h .port) at (s .formed);
-      master = ap (λ (v : View). v .word) (sym whole) ∙ h .word;
-      view = h .there ∙ ap some whole;
-    }
-
--- ---- the port that an effect concerns is its address's own: it stands open there, or it and the address are free
-
-own-here : {m : Areas} {a p w : ℕ} → Here m a p w → Own m a p
-own-here {m} {a} {p} h =
-    record { small = h .small; alone = λ b f. one-address b a (portAt m p) f (h .formed); only = λ _. h .entry }
-
-own-free : {m : Areas} (a p : ℕ) → p ≤ 255 → entry m a ≡ 0 → portAt m p .flags ≡ 0 → Own m a p
-own-free {m} a p h free unused =
-    record { small = h; alone = λ b f. absurd (formed-used b (portAt m p) f unused); only = λ pos. omega arith }
-
--- ---- each effect is a change at one address and its own port, and what address b then shows
-
-module _ {m : Areas} (s : Shape m) (a p code : ℕ) (sink : Bool) (i : ℕ) (ha : a < 4096) (pos : 0 < p) (hp : p ≤ 255) (hc : code ≤ 4)
-    (hi : i ≤ 7) (free : entry m a ≡ 0) (unused : portAt m p .flags ≡ 0) where
-  open-change : Change m (apply (opened a p code sink i) m) a p p (openWords a code sink i)
-  unfolding apply
-  open-change =
-      changed s (own-free a p hp free unused) (entry-set (m .index) a p (omega (arith, lengths m (s .fits) .index)))
-      (part-kept p (m .page0)) (part-kept p (m .page1)) (inr (refl, open-formed a code sink i ha hc hi))
-
-  view-open : (b : ℕ) → view (apply (opened a p code sink i) m) b ≡ cond (eqb a b) (some (justOpened a p code sink i)) (view m b)
-  unfolding viewOf openWords
-  view-open b =
-      let fresh : viewOf (apply (opened a p code sink i) m) p ≡ justOpened a p code sink i =
-      rw (open-change .words-here, flags-of-word (openFlags sink)) in
-      view-change open-change s (view-here open-change pos refl (open-formed a code sink i ha hc hi) ∙ ap some fresh) b
-
-module _ {m : Areas} {a p w : ℕ} (s : Shape m) (h : Here m a p w) where
-  close-change : Change m (apply (closed a p) m) a p 0 noWords
-  unfolding apply
-  close-change =
-      let low : a < length (m .index) = omega (arith, lengths m (s .fits) .index, formed a (portAt m p) (h .formed) .address) in
-      changed s (own-here h) (entry-set (m .index) a 0 low) (part-kept p (m .page0)) (part-kept p (m .page1)) (inl (refl, refl))
-
-  view-close : (b : ℕ) → view (apply (closed a p) m) b ≡ cond (eqb a b) none (view m b)
-  view-close b = view-change close-change s (view-none (apply (closed a p) m) a (close-change .index .here)) b
-
-  mark-change : (x : Faults) → Change m (apply (mark p x) m) a p p (markedWords (portAt m p) x)
-  unfolding apply
-  mark-change x =
-      changed s (own-here h) (entry-kept (m .index) a p (h .entry)) (part-kept p (m .page0)) (part-kept p (m .page1))
-      (inr (refl, marked-formed a (portAt m p) x (h .formed)))
-
-  view-of-mark : (x : Faults) → viewOf (apply (mark p x) m) p ≡ viewOf m p
-  unfolding viewOf apply markedWords
-  view-of-mark x = rw (mark-change x .words-here, flags-of-word (faulty (flagsOf (portAt m p .flags)) x))
-
-  view-mark : (x : Faults) (b : ℕ) → view (apply (mark p x) m) b ≡ view m b
-  view-mark x b =
-      let c = mark-change x in
-      dite (ℕ-discrete b a)
-      (λ same.
-      rw (same, h .view, ← (view-of-mark x))
-      (view-here c (h .positive) refl (marked-formed a (portAt m p) x (h .formed))))
-      (λ ne. view-other c s b ne)
-
-  fill-change : (ws : List ℕ) → length ws ≡ sizeOf (codeOf w) → Change m (apply (fill p ws) m) a p p (filledWords (portAt m p))
-  unfolding apply filled
-  fill-change ws size =
-      let one = flagsOf (portAt m p .flags) .vp in
-      let short : length ws ≤ 16 = omega (arith, size-small (codeOf w)) in
-      changed s (own-here h) (entry-kept (m .index) a p (h .entry))
-      (part-either one (part-set p (m .page0) ws short) (part-kept p (m .page0)))
-      (part-either one (part-kept p (m .page1)) (part-set p (m .page1) ws short))
-      (inr (refl, filled-formed a (portAt m p) (h .formed)))
-
-  view-of-fill : (ws : List ℕ) → length ws ≡ sizeOf (codeOf w) → viewOf (apply (fill p ws) m) p ≡ refilled ws (viewOf m p)
-  unfolding viewOf apply filled filledWords
-  view-of-fill ws size =
-      let f = flagsOf (portAt m p .flags) in
-      rw (fill-change ws size .words-here, flags-of-word (turned f), shown (f .vp))
-    where
-      stored : (page : List ℕ) → length page ≡ 4096 → partOf (withPart page p ws) p (sizeOf (codeOf (portAt m p .master))) ≡ ws
-      stored page long = rw (h .master, ← size) (part-same page p ws (omega (arith, h .small, size-small (codeOf w))))
-
-      shown : (v : Bool)
-          → partOf (cond (not v) (cond v (m .page1) (withPart (m .page1) p ws)) (cond v (withPart (m .page0) p ws) (m .page0))) p
-          (sizeOf (codeOf (portAt m p .master))) ≡ ws
-      shown true = stored (m .page0) (lengths m (s .fits) .page0)
-      shown false = stored (m .page1) (lengths m (s .fits) .page1)
-
-  -- no other address shows the port
-  unfilled : (ws : List ℕ) (b : ℕ) → b ≢ a → refillIf p ws (view m b) ≡ view m b
-  unfilled ws b ne = go (view m b) refl
-    where
-      go : (o : Option View) → view m b ≡ o → refillIf p ws o ≡ o
-      go none e = refl
-      go (some v) e = rw (ne-eqb (v .port) p (λ same. ne (own-here h .alone b (rw same at (view-at m b v e .formed)))))
-
-  view-fill : (ws : List ℕ) → length ws ≡ sizeOf (codeOf w) → (b : ℕ) → view (apply (fill p ws) m) b ≡ refillIf p ws (view m b)
-  unfolding viewOf
-  view-fill ws size b =
-      let c = fill-change ws size in
-      dite (ℕ-discrete b a)
-      (λ same.
-      rw (same, h .view, eq-eqb p p refl, ← (view-of-fill ws size))
-      (view-here c (h .positive) refl (filled-formed a (portAt m p) (h .formed))))
-      (λ ne. view-other c s b ne ∙ sym (unfilled ws b ne))
-
--- ---- every effect
-
-pub shape-apply : (e : Effect) (m : Areas) → Shape m → Valid m e → Shape (apply e m)
-unfolding apply
-shape-apply e m s nothing = s
-shape-apply e m s (filling {ws = ws} at size) = shape-change (fill-change s (at-here at) ws size) s
-shape-apply e m s (marking {x = x} at) = shape-change (mark-change s (at-here at) x) s
-shape-apply e m s (opening {a} {p} {code} {sink} {i} ha pos hp hc hi free unused) =
-    shape-change (open-change s a p code sink i ha pos hp hc hi free unused) s
-shape-apply e m s (closing at) = shape-change (close-change s (at-here at)) s
-
-pub view-apply : (e : Effect) (m : Areas) (b : ℕ) → Shape m → Valid m e → view (apply e m) b ≡ viewAfter e b (view m b)
-unfolding apply
-view-apply e m b s nothing = refl
-view-apply e m b s (filling {ws = ws} at size) = view-fill s (at-here at) ws size b
-view-apply e m b s (marking {x = x} at) = view-mark s (at-here at) x b
-view-apply e m b s (opening {a} {p} {code} {sink} {i} ha pos hp hc hi free unused) =
-    view-open s a p code sink i ha pos hp hc hi free unused b
-view-apply e m b s (closing at) = view-close s (at-here at) b
+-- what an effect does to what address a shows: a fill is seen at the address of its port alone, marks are not seen, opening and
+-- closing at their own address
+abbrev pub standingAfter : Effect → ℕ → Option Standing → Option Standing
+standingAfter untouched a v = v
+standingAfter (fill p ws) a v = refillIf p ws v
+standingAfter (mark p x) a v = v
+standingAfter (opened b p code sink i) a v = cond (eqb b a) (some (justOpened b p code sink i)) v
+standingAfter (closed b p) a v = cond (eqb b a) none v

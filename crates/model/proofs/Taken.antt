@@ -15,19 +15,20 @@ use Rattle.frames.specs.declared.Judgement.{Judgement}
 use Rattle.frames.specs.declared.Judgement.the-variants.{Sound, Unsound as Bad}
 use Rattle.frames.specs.Hearing.{wordsOf}
 use Rattle.frames.specs.Judge.{judgedMaster, judgedSlave}
+use Rattle.interrupts.specs.Names.{SFC}
 use Rattle.model.specs.declared.Exchange.{Exchange}
 use Rattle.model.specs.declared.Exchange.the-variants.{Idle, Waiting, Done}
 use Rattle.model.specs.declared.Times.{Times}
 use Rattle.model.specs.Layout.{Areas}
-use Rattle.model.specs.Ports.{codeOf, addressOf, View, view, Effect, fill, apply}
-use Rattle.model.specs.Shape.{Shape, Valid, nothing, refilled, viewAfter}
-use Rattle.interrupts.specs.Names.{SFC}
+use Rattle.model.specs.Ports.{codeOf, addressOf, Standing, standing, viewOf, viewed, refilled, apply}
 use Rattle.model.specs.declared.Heard.the-variants.{Reply}
-use Rattle.model.specs.Event.{interruptOf, raised0, asMaster, asHeard, portFor, sinkFor, taken, effectOf}
-use Rattle.model.specs.Damage.{Gentle, still, marks}
-use Rattle.model.specs.Past.{isSlave, isSound, isWord}
-use Rattle.model.proofs.Views.{view-at, distinct}
-use Rattle.model.proofs.Shape.{view-apply}
+use Rattle.model.specs.Event.{interruptOf, asMaster, asHeard, portFor, sinkFor, taken}
+use Rattle.model.specs.Taken.{still, marks, Took, takes, spares}
+use Rattle.model.specs.Past.{isSlave, isSound, isWord, takenIf}
+use Rattle.model.proofs.Shape.{Shape, Valid, nothing, refill, standingAfter}
+use Rattle.model.proofs.Tables.{raised0, effectOf}
+use Rattle.model.proofs.Standings.{standing-at, distinct}
+use Rattle.model.proofs.ShapeKept.{standing-apply}
 use Rattle.model.proofs.Accepted.{both-hold, nowhere, Sink, sink-open, valid-taken}
 use Rattle.model.proofs.Waits.{waitNow, Live, waits-now}
 
@@ -35,25 +36,34 @@ use Rattle.model.proofs.Waits.{waitNow, Live, waits-now}
 abbrev pub soundAnswer : Kind → Option ℕ → Hearing → ℕ → Bool
 soundAnswer k o h w = isSlave k && isWord o w && isSound (judgedSlave (codeOf w) h)
 
--- what an address shows, if the sinks whose master word passes the test take these words
-abbrev pub takenIf : (ℕ → Bool) → List ℕ → Option View → Option View
-takenIf f ws none = none
-takenIf f ws (some v) = some (cond (v .sink && f (v .word)) (refilled ws v) v)
+-- what stands at an address, if the sinks whose master word passes the test take these words
+abbrev pub takenBy : (ℕ → Bool) → List ℕ → Option Standing → Option Standing
+takenBy f ws none = none
+takenBy f ws (some v) = some (cond (v .sink && f (v .word)) (refill ws v) v)
+
+-- and what the address shows
+pub taken-viewed : (f : ℕ → Bool) (ws : List ℕ) (o : Option Standing) → viewed (takenBy f ws o) ≡ takenIf f ws (viewed o)
+taken-viewed f ws none = refl
+taken-viewed f ws (some v) = go (v .sink && f (v .word))
+  where
+    go : (b : Bool) → some (viewOf (cond b (refill ws v) v)) ≡ some (cond b (refilled ws (viewOf v)) (viewOf v))
+    go true = refl
+    go false = refl
 
 and-false : (a : Bool) → (a && false) ≡ false
 and-false true = refl
 and-false false = refl
 
 -- where no word passes, nothing is taken
-none-taken : (f : ℕ → Bool) (ws : List ℕ) (o : Option View) → ((w : ℕ) → f w ≡ false) → o ≡ takenIf f ws o
+none-taken : (f : ℕ → Bool) (ws : List ℕ) (o : Option Standing) → ((w : ℕ) → f w ≡ false) → o ≡ takenBy f ws o
 none-taken f ws none h = refl
 none-taken f ws (some v) h = rw (h (v .word), and-false (v .sink))
 
 -- the sink that stands open for a word is the one that is found for it
-pub sink-found : (m : Areas) (a : ℕ) (v : View) → view m a ≡ some v → v .sink ≡ true → sinkFor m (v .word) ≡ some v
+pub sink-found : (m : Areas) (a : ℕ) (v : Standing) → standing m a ≡ some v → v .sink ≡ true → sinkFor m (v .word) ≡ some v
 unfolding portFor
 sink-found m a v e k =
-    let at = view-at m a v e in
+    let at = standing-at m a v e in
     rw (le-leb (codeOf (v .word)) 4 (at .code), at .address, e, eq-eqb (v .word) (v .word) refl, k)
 
 module _ (m : Areas) (h : Hearing) (w : ℕ) where
@@ -70,7 +80,7 @@ module _ (m : Areas) (h : Hearing) (w : ℕ) where
       go false eb = refl
 
   -- no sink is found for w: then none is open for it
-  none-open : sinkFor m w ≡ none → (a : ℕ) (v : View) → view m a ≡ some v → (v .sink && passes (v .word)) ≡ false
+  none-open : sinkFor m w ≡ none → (a : ℕ) (v : Standing) → standing m a ≡ some v → (v .sink && passes (v .word)) ≡ false
   unfolding passes
   none-open n a v e = go (v .sink) (eqb w (v .word)) refl refl
     where
@@ -80,8 +90,8 @@ module _ (m : Areas) (h : Hearing) (w : ℕ) where
       go false c eb ec = refl
 
   -- the sink u is found for w: it is the one port that takes the frame
-  module _ (u : View) (found : sinkFor m w ≡ some u) (sound : judgedSlave (codeOf w) h ≡ Sound) where
-    one-port : (a : ℕ) (v : View) → view m a ≡ some v → eqb (v .port) (u .port) ≡ (v .sink && passes (v .word))
+  module _ (u : Standing) (found : sinkFor m w ≡ some u) (sound : judgedSlave (codeOf w) h ≡ Sound) where
+    one-port : (a : ℕ) (v : Standing) → standing m a ≡ some v → eqb (v .port) (u .port) ≡ (v .sink && passes (v .word))
     unfolding passes
     one-port a v e = go (ℕ-discrete (v .port) (u .port))
       where
@@ -92,32 +102,32 @@ module _ (m : Areas) (h : Hearing) (w : ℕ) where
             → eqb (v .port) (u .port) ≡ (v .sink && (eqb w (v .word) && isSound (judgedSlave (codeOf (v .word)) h)))
         go (yes p) =
             let here : a ≡ addressOf w = distinct m a (addressOf w) v u e (at .there) p in
-            let seen : some v ≡ some u = sym e ∙ ap (view m) here ∙ at .there in
+            let seen : some v ≡ some u = sym e ∙ ap (standing m) here ∙ at .there in
             let same : v ≡ u = cc in
             rw
-            (eq-eqb _ _ p, ap (λ (x : View). x .sink) same ∙ at .sink, ap (λ (x : View). x .word) same ∙ at .word, eq-eqb w w refl, sound)
+            (eq-eqb _ _ p, ap (λ (x : Standing). x .sink) same ∙ at .sink, ap (λ (x : Standing). x .word) same ∙ at .word, eq-eqb w w refl, sound)
         go (no n) = rw (ne-eqb _ _ n) (sym (other (v .sink) (eqb w (v .word)) refl refl))
           where
             other : (b c : Bool) → v .sink ≡ b → eqb w (v .word) ≡ c → (b && (c && isSound (judgedSlave (codeOf (v .word)) h))) ≡ false
             other true true eb ec =
                 let q : some u ≡ some v = sym found ∙ ap (sinkFor m) (eqb-true _ _ ec) ∙ sink-found m a v e eb in
                 let z : u ≡ v = cc in
-                absurd (n (sym (ap (λ (x : View). x .port) z)))
+                absurd (n (sym (ap (λ (x : Standing). x .port) z)))
             other true false eb ec = refl
             other false c eb ec = refl
 
   -- while w is waited for, a slave frame is taken by the sinks whose word passes
   while-waiting : Shape m → length (h .words) ≡ 16 → (a : ℕ)
-      → view (apply (taken (sinkFor m w) (judgedSlave (codeOf w) h) h) m) a ≡ takenIf passes (wordsOf h) (view m a)
+      → standing (apply (taken (sinkFor m w) (judgedSlave (codeOf w) h) h) m) a ≡ takenBy passes (wordsOf h) (standing m a)
   while-waiting shape l a =
-      view-apply (taken (sinkFor m w) (judgedSlave (codeOf w) h) h) m a shape (valid-taken m w h (judgedSlave (codeOf w) h) l refl)
-      ∙ go (sinkFor m w) refl (judgedSlave (codeOf w) h) refl (view m a) refl
+      standing-apply (taken (sinkFor m w) (judgedSlave (codeOf w) h) h) m a shape (valid-taken m w h (judgedSlave (codeOf w) h) l refl)
+      ∙ go (sinkFor m w) refl (judgedSlave (codeOf w) h) refl (standing m a) refl
     where
-      go : (o : Option View) → sinkFor m w ≡ o → (j : Judgement) → judgedSlave (codeOf w) h ≡ j → (x : Option View) → view m a ≡ x
-          → viewAfter (taken o j h) a x ≡ takenIf passes (wordsOf h) x
+      go : (o : Option Standing) → sinkFor m w ≡ o → (j : Judgement) → judgedSlave (codeOf w) h ≡ j → (x : Option Standing) → standing m a ≡ x
+          → standingAfter (taken o j h) a x ≡ takenBy passes (wordsOf h) x
       go o eo j ej none ex = blank o j
         where
-          blank : (o : Option View) (j : Judgement) → viewAfter (taken o j h) a none ≡ none
+          blank : (o : Option Standing) (j : Judgement) → standingAfter (taken o j h) a none ≡ none
           blank none j = refl
           blank (some u) Sound = refl
           blank (some u) (Bad crc) = refl
@@ -128,18 +138,18 @@ module _ (m : Areas) (h : Hearing) (w : ℕ) where
 -- A slave frame is taken exactly when it is a sound answer to the master word of an open sink; no other frame is seen at any address.
 pub taken-exactly : (m : Areas) → Shape m → (h : Hearing) → length (h .words) ≡ 16 → (k : Kind) (x : Exchange) (t : Times) → Live x t
     → (a : ℕ)
-    → view (apply (effectOf m (asHeard k x h) h) m) a ≡ takenIf (soundAnswer k (waitNow x t 0) h) (wordsOf h) (view m a)
+    → standing (apply (effectOf m (asHeard k x h) h) m) a ≡ takenBy (soundAnswer k (waitNow x t 0) h) (wordsOf h) (standing m a)
 unfolding apply passes
-taken-exactly m s h l Silence x t v a = none-taken _ (wordsOf h) (view m a) (λ w. refl)
-taken-exactly m s h l Noise x t v a = none-taken _ (wordsOf h) (view m a) (λ w. refl)
+taken-exactly m s h l Silence x t v a = none-taken _ (wordsOf h) (standing m a) (λ w. refl)
+taken-exactly m s h l Noise x t v a = none-taken _ (wordsOf h) (standing m a) (λ w. refl)
 taken-exactly m s h l MasterFrame x t v a = go (judgedMaster h)
   where
     go : (j : Judgement)
-        → view (apply (effectOf m (asMaster j h) h) m) a ≡ takenIf (soundAnswer MasterFrame (waitNow x t 0) h) (wordsOf h) (view m a)
-    go Sound = none-taken _ (wordsOf h) (view m a) (λ w. refl)
-    go (Bad crc) = none-taken _ (wordsOf h) (view m a) (λ w. refl)
-taken-exactly m s h l SlaveFrame Idle t v a = none-taken _ (wordsOf h) (view m a) (λ w. refl)
-taken-exactly m s h l SlaveFrame Done t v a = none-taken _ (wordsOf h) (view m a) (λ w. refl)
+        → standing (apply (effectOf m (asMaster j h) h) m) a ≡ takenBy (soundAnswer MasterFrame (waitNow x t 0) h) (wordsOf h) (standing m a)
+    go Sound = none-taken _ (wordsOf h) (standing m a) (λ w. refl)
+    go (Bad crc) = none-taken _ (wordsOf h) (standing m a) (λ w. refl)
+taken-exactly m s h l SlaveFrame Idle t v a = none-taken _ (wordsOf h) (standing m a) (λ w. refl)
+taken-exactly m s h l SlaveFrame Done t v a = none-taken _ (wordsOf h) (standing m a) (λ w. refl)
 taken-exactly m s h l SlaveFrame (Waiting w) t v a = rw (waits-now w t v) (while-waiting m h w s l a)
 
 -- What a bus event does to the areas is valid.
@@ -157,39 +167,35 @@ valid-heard m h l SlaveFrame (Waiting w) = valid-taken m w h (judgedSlave (codeO
 
 -- ---- the same of the effect itself: it fills the sink whose master word is answered, or no sink's is and status bits alone change
 
-pub data Took (f : ℕ → Bool) (m : Areas) (h : Hearing) : Effect → Type 0 where
-  takes : (a : ℕ) (v : View) → view m a ≡ some v → v .sink ≡ true → f (v .word) ≡ true → Took f m h (fill (v .port) (wordsOf h))
-  leaves : {e : Effect} → Gentle e → ((a : ℕ) (v : View) → view m a ≡ some v → v .sink ≡ true → f (v .word) ≡ false) → Took f m h e
-
 module _ (m : Areas) (h : Hearing) where
-  waiting-took : (w : ℕ) → Took (soundAnswer SlaveFrame (some w) h) m h (taken (sinkFor m w) (judgedSlave (codeOf w) h) h)
+  pub waiting-took : (w : ℕ) → Took (soundAnswer SlaveFrame (some w) h) m h (taken (sinkFor m w) (judgedSlave (codeOf w) h) h)
   unfolding passes
   waiting-took w = go (sinkFor m w) refl (judgedSlave (codeOf w) h) refl
     where
-      open-sink : sinkFor m w ≡ none → (a : ℕ) (v : View) → view m a ≡ some v → v .sink ≡ true → passes m h w (v .word) ≡ false
+      open-sink : sinkFor m w ≡ none → (a : ℕ) (v : Standing) → standing m a ≡ some v → v .sink ≡ true → passes m h w (v .word) ≡ false
       open-sink n a v e k = rw k at (none-open m h w n a v e)
 
-      go : (o : Option View) → sinkFor m w ≡ o → (j : Judgement) → judgedSlave (codeOf w) h ≡ j
+      go : (o : Option Standing) → sinkFor m w ≡ o → (j : Judgement) → judgedSlave (codeOf w) h ≡ j
           → Took (soundAnswer SlaveFrame (some w) h) m h (taken o j h)
-      go none eo j ej = leaves still (open-sink eo)
+      go none eo j ej = spares still (open-sink eo)
       go (some u) eo Sound ej = let k = sink-open m w u eo in takes (addressOf w) u (k .there) (k .sink) (rw (k .word, eq-eqb w w refl, ej))
-      go (some u) eo (Bad crc) ej = leaves marks (λ a v e k. unsound-passes m h w ej (v .word))
+      go (some u) eo (Bad crc) ej = spares marks (λ a v e k. unsound-passes m h w ej (v .word))
 
   pub took-heard : (k : Kind) (x : Exchange) (t : Times) → Live x t
       → Took (soundAnswer k (waitNow x t 0) h) m h (effectOf m (asHeard k x h) h)
-  took-heard Silence x t l = leaves still (λ a v e s. refl)
-  took-heard Noise x t l = leaves still (λ a v e s. refl)
+  took-heard Silence x t l = spares still (λ a v e s. refl)
+  took-heard Noise x t l = spares still (λ a v e s. refl)
   took-heard MasterFrame x t l = go (judgedMaster h)
     where
       go : (j : Judgement) → Took (soundAnswer MasterFrame (waitNow x t 0) h) m h (effectOf m (asMaster j h) h)
-      go Sound = leaves still (λ a v e s. refl)
-      go (Bad crc) = leaves still (λ a v e s. refl)
-  took-heard SlaveFrame Idle t l = leaves still (λ a v e s. refl)
-  took-heard SlaveFrame Done t l = leaves still (λ a v e s. refl)
+      go Sound = spares still (λ a v e s. refl)
+      go (Bad crc) = spares still (λ a v e s. refl)
+  took-heard SlaveFrame Idle t l = spares still (λ a v e s. refl)
+  took-heard SlaveFrame Done t l = spares still (λ a v e s. refl)
   took-heard SlaveFrame (Waiting w) t l = rw (waits-now w t l) (waiting-took w)
 
 -- The port that takes a frame raises its interrupt, after SFC.
-pub taken-raises : (m : Areas) (h : Hearing) (k : Kind) (x : Exchange) (t : Times) → Live x t → (a : ℕ) (v : View) → view m a ≡ some v
+pub taken-raises : (m : Areas) (h : Hearing) (k : Kind) (x : Exchange) (t : Times) → Live x t → (a : ℕ) (v : Standing) → standing m a ≡ some v
     → v .sink ≡ true
     → soundAnswer k (waitNow x t 0) h (v .word) ≡ true → raised0 m x t (asHeard k x h) ≡ SFC ∷ interruptOf (some v)
 taken-raises m h Silence x t l a v e s f = absurd (false≢true f)

@@ -3,10 +3,10 @@ use mathlib.Core.Path.{_≡_, refl}
 use mathlib.Core.List.{List, [], _∷_}
 use lib.Dec.{lit<, lit≤}
 use Rattle.model.specs.Host.{freshController, status}
-use Rattle.model.specs.Calls.{Call, hear, quiet, openPort, closePort, writePort, readPort, setting, refusal, step, start}
-use Rattle.model.specs.Past.{after, Typed, Accepted, lastSet, chosenIn, awaited, openingOf, lastStatus, countSince, framesJudged}
-use Rattle.model.specs.Past.{framesUnsound}
-use Rattle.model.proofs.Shape.{shape-cleared, view-cleared}
+use Rattle.model.specs.Calls.{Call, hear, quiet, openPort, closePort, writePort, readPort, setting, outOfRange, refusal, step}
+use Rattle.model.specs.Calls.{start}
+use Rattle.model.specs.Past.{after, Typed, Accepted, awaited, openingOf, countSince, framesJudged, lastSettings, framesUnsound}
+use Rattle.model.proofs.ShapeKept.{shape-cleared, standing-cleared}
 use Rattle.model.proofs.Refused.{accepted}
 use Rattle.model.proofs.Invariant.{Told, ToldBy, hear-told}
 use Rattle.model.proofs.Hosted.{quiet-told, open-told, close-told, write-told, read-told, set-told}
@@ -14,14 +14,15 @@ use Rattle.model.proofs.Hosted.{quiet-told, open-told, close-told, writ
 -- ---- any run
 
 start-told : Told [] (start .controller) (start .areas)
-unfolding start freshController awaited chosenIn lastStatus framesJudged framesUnsound openingOf lastSet countSince
+unfolding start freshController awaited framesJudged framesUnsound openingOf countSince lastSettings
 start-told =
     record {
-      holds = record { shape = shape-cleared; views = view-cleared; waits = λ q. refl; live = tt; short = lit≤ tt };
+      holds = record { shape = shape-cleared; stands = standing-cleared; waits = λ q. refl; live = tt; short = lit≤ tt };
       chosen = refl;
       some-time = lit< tt;
       short-time = lit≤ tt;
       status = refl;
+      address = refl;
       fc = refl;
       ec = refl;
     }
@@ -36,10 +37,10 @@ step-told past (closePort b) ty r h = close-told past b r h
 step-told past (writePort b ws) ty r h = write-told past b ws r h
 step-told past (readPort b) ty r h = read-told past b h
 step-told past (setting t) ty r h =
-    set-told past (after past .controller) (after past .areas) h t (accepted (setting t) (after past) r .range)
+    set-told past (after past .controller) (after past .areas) h t (accepted (setting t) (after past) r outOfRange)
 
 -- After every past of accepted calls, controller and areas are as the past tells.
-pub told : (past : List Call) → Accepted past → Told past (after past .controller) (after past .areas)
+pub past-told : (past : List Call) → Accepted past → Told past (after past .controller) (after past .areas)
 unfolding after
-told [] acc = start-told
-told (c ∷ past) acc = step-told past c (acc .0) (acc .1) (told past (acc .2))
+past-told [] acc = start-told
+past-told (c ∷ past) acc = step-told past c (acc .0) (acc .1) (past-told past (acc .2))

@@ -12,8 +12,6 @@ use borrow.Author.Tests.{lt-ltb, le-ltb, leb-true, leb-false}
 use Rattle.frames.specs.declared.Kind.{Kind}
 use Rattle.frames.specs.declared.Kind.the-variants.{Silence, Noise, Master as MasterFrame, Slave as SlaveFrame}
 use Rattle.frames.specs.declared.Hearing.{Hearing}
-use Rattle.frames.specs.declared.Expected.{Expected}
-use Rattle.frames.specs.declared.Expected.the-variants.{Words as Expects, NoReply}
 use Rattle.frames.specs.declared.Judgement.{Judgement}
 use Rattle.frames.specs.declared.Judgement.the-variants.{Sound, Unsound as Bad}
 use Rattle.frames.specs.Size.{expectedOf}
@@ -24,9 +22,10 @@ use Rattle.model.specs.declared.Times.{Times}
 use Rattle.model.specs.declared.Device.{Device}
 use Rattle.model.specs.Layout.{Areas}
 use Rattle.model.specs.Ports.{codeOf}
-use Rattle.model.specs.Event.{asMaster, asSlave, asHeard, answerTo, exchangeFor, awaits, answerOf, exchangeAfter, timesAfter}
+use Rattle.model.specs.Event.{asMaster, asSlave, asHeard, answerTo, exchangeFor, awaits}
 use Rattle.model.specs.Quiet.{sinceLater, expired, exchangeLater, timesLater}
 use Rattle.model.specs.Past.{firstWord, asksOthers, waitAfter}
+use Rattle.model.proofs.Tables.{exchangeAfter, timesAfter}
 
 -- what is waited for after q quiet bit times more, by the controller's state
 abbrev pub waitNow : Exchange → Times → ℕ → Option ℕ
@@ -48,19 +47,19 @@ waits-now w t l = rw (lt-ltb (t .since + 0) (t .adopted) (omega arith))
 
 module _ (d : Device) (m : Areas) (t : Times) (h : Hearing) where
   -- the wait that a sound master frame begins, if it asks somebody else
-  begun : ℕ → Option (List ℕ) → ℕ → Option ℕ
-  begun w r q = cond (asksOthers (expectedOf (codeOf w)) r && ltb q (t .chosen)) (some w) none
+  begun : ℕ → ℕ → Option ℕ
+  begun w q = cond (asksOthers (expectedOf (codeOf w)) (answerTo d m w) && ltb q (t .chosen)) (some w) none
 
-  by-answer : (w : ℕ) (x : Expected) (r : Option (List ℕ)) (q : ℕ)
+  by-answer : (w : ℕ) (x : Option ℕ) (r : Option (List ℕ)) (q : ℕ)
       → waitNow (awaits x w r) (record { since = 0; line = 0; chosen = t .chosen; adopted = t .chosen }) q
       ≡ cond (asksOthers x r && ltb q (t .chosen)) (some w) none
-  by-answer w NoReply r q = refl
-  by-answer w (Expects n) none q = rw zero-add
-  by-answer w (Expects n) (some ws) q = refl
+  by-answer w none r q = refl
+  by-answer w (some n) none q = rw zero-add
+  by-answer w (some n) (some ws) q = refl
 
   by-judgement : (j : Judgement) (x : Exchange) (before : Option ℕ) (q : ℕ)
       → waitNow (exchangeAfter d m x (asMaster j h)) (timesAfter t (asMaster j h)) q
-      ≡ waitAfter MasterFrame j before (begun (firstWord h) (answerOf d m (asMaster j h)) q)
+      ≡ waitAfter MasterFrame j before (begun (firstWord h) q)
   unfolding begun exchangeFor
   by-judgement Sound x before q = by-answer (firstWord h) (expectedOf (codeOf (firstWord h))) (answerTo d m (firstWord h)) q
   by-judgement (Bad crc) x before q = refl
@@ -74,18 +73,18 @@ module _ (d : Device) (m : Areas) (t : Times) (h : Hearing) where
   pub waits-heard : (k : Kind) (x : Exchange) (q : ℕ)
       → waitNow (exchangeAfter d m x (asHeard k x h)) (timesAfter t (asHeard k x h)) q
       ≡ waitAfter k (judgedMaster h) (waitNow x t q)
-      (cond (asksOthers (expectedOf (codeOf (firstWord h))) (answerOf d m (asHeard k x h)) && ltb q (t .chosen)) (some (firstWord h)) none)
+      (cond (asksOthers (expectedOf (codeOf (firstWord h))) (answerTo d m (firstWord h)) && ltb q (t .chosen)) (some (firstWord h)) none)
   unfolding begun
   waits-heard Silence x q = refl
   waits-heard Noise x q = refl
   waits-heard MasterFrame x q = by-judgement (judgedMaster h) x (waitNow x t q) q
   waits-heard SlaveFrame x q = by-exchange x q
 
-  live-answer : (w : ℕ) (x : Expected) (r : Option (List ℕ)) → 0 < t .chosen
+  live-answer : (w : ℕ) (x : Option ℕ) (r : Option (List ℕ)) → 0 < t .chosen
       → Live (awaits x w r) (record { since = 0; line = 0; chosen = t .chosen; adopted = t .chosen })
-  live-answer w NoReply r p = tt
-  live-answer w (Expects n) none p = p
-  live-answer w (Expects n) (some ws) p = tt
+  live-answer w none r p = tt
+  live-answer w (some n) none p = p
+  live-answer w (some n) (some ws) p = tt
 
   live-master : (j : Judgement) (x : Exchange) → 0 < t .chosen → Live (exchangeAfter d m x (asMaster j h)) (timesAfter t (asMaster j h))
   unfolding exchangeFor

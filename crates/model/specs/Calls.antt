@@ -1,7 +1,8 @@
 -- Document 01, "What callers are told": every call, when each number is given, in the stated order, and what an accepted call does.
 -- Assumes nothing.
 use Prim.Native.Nat.{ℕ, _*_}
-use mathlib.Core.Bool.{Bool, false, cond, not, _&&_, _||_}
+use mathlib.Core.Path.{_≡_}
+use mathlib.Core.Bool.{Bool, true, false, cond, not, _&&_, _||_}
 use mathlib.Core.List.{List, [], _∷_}
 use mathlib.Core.Option.{Option, none, some}
 use lib.Dec.{eqb, ltb}
@@ -34,36 +35,89 @@ pub data Call : Type 0 where
 
 -- ---- when each number is given
 
--- 1 AREA: an area has another length, of a call that is lent the areas
-abbrev pub badArea : Call → World → Bool
-badArea (hear a b) s = not (areasFit (s .areas))
-badArea (quiet n) s = not (areasFit (s .areas))
-badArea (openPort a p code sink i) s = not (areasFit (s .areas))
-badArea (closePort a) s = not (areasFit (s .areas))
-badArea (writePort a ws) s = not (areasFit (s .areas))
-badArea (readPort a) s = not (areasFit (s .areas))
-badArea (setting t) s = false
+-- the tests, by their names
+pub data TestName : Type 0 where
+  badArea outOfRange badEntry noPort isTaken badWords wrongSide wrongSize : TestName
+  deriving Discrete as name-discrete
+
+-- 1 AREA, 2 RANGE, 3 NOPORT, 4 TAKEN, 5 SIDE, 6 DAMAGED
+abbrev pub refusalNumber : TestName → ℕ
+refusalNumber badArea = 1
+refusalNumber outOfRange = 2
+refusalNumber badEntry = 6
+refusalNumber noPort = 3
+refusalNumber isTaken = 4
+refusalNumber badWords = 6
+refusalNumber wrongSide = 5
+refusalNumber wrongSize = 2
+
+pub record Test : Type 0 where
+  pub name : TestName
+  pub given : Bool
+
+abbrev pub test : TestName → Bool → Test
+test n b = record { name = n; given = b }
+
+-- an area has another length
+abbrev pub areaTest : Areas → Test
+areaTest m = test badArea (not (areasFit m))
+
+-- an argument is out of range
+abbrev pub rangeTest : Bool → Test
+rangeTest out = test outOfRange out
+
+-- an index entry needed is above 255
+abbrev pub entryAbove : Areas → Option ℕ → Bool
+entryAbove m none = false
+entryAbove m (some a) = ltb 255 (entry m a)
+
+abbrev pub entryTest : Areas → Option ℕ → Test
+entryTest m o = test badEntry (entryAbove m o)
+
+-- the index entry is 0
+abbrev pub noPortTest : Areas → ℕ → Test
+noPortTest m a = test noPort (eqb (entry m a) 0)
+
+-- the address has an entry, or word 1 of that port is not 0
+abbrev pub takenTest : Areas → ℕ → ℕ → Test
+takenTest m a p = test isTaken (not (eqb (entry m a) 0) || not (eqb (portAt m p .flags) 0))
+
+-- port words needed are not well formed
+abbrev pub illFormed : Areas → Option ℕ → Bool
+illFormed m none = false
+illFormed m (some a) = not (eqb (entry m a) 0) && not (wellFormed a (portAt m (entry m a)))
+
+abbrev pub wordsTest : Areas → Option ℕ → Test
+wordsTest m o = test badWords (illFormed m o)
+
+-- the host writes to a sink
+abbrev pub sideTest : Areas → ℕ → Test
+sideTest m a = test wrongSide (flagsOf (portAt m (entry m a) .flags) .sink)
+
+-- a write has not the port's size
+abbrev pub sizeTest : Areas → ℕ → List ℕ → Test
+sizeTest m a ws = test wrongSize (not (eqb (length ws) (sizeOf (codeOf (portAt m (entry m a) .master)))))
+
+-- ---- the order: 1, 2, 6 for the entry, 3 or 4, 6 for the port words (not on opening), 5, 2 for the size of a write
+
+-- a host's call that needs a port, and what it asks of it
+abbrev pub atPort : Areas → ℕ → List Test → List Test
+atPort m a more = areaTest m ∷ rangeTest (ltb 4095 a) ∷ entryTest m (some a) ∷ noPortTest m a ∷ wordsTest m (some a) ∷ more
 
 -- address 0 to 4095, port 1 to 255, F-code 0 to 4 and interrupt 0 to 7 on opening
 abbrev pub openOut : ℕ → ℕ → ℕ → ℕ → Bool
 openOut a p code i = ltb 4095 a || eqb p 0 || ltb 255 p || ltb 4 code || ltb 7 i
 
--- 2 RANGE: an argument is out of range; both hearings are tested
-abbrev pub outOfRange : Call → Bool
-outOfRange (hear a b) = not (inRange a) || not (inRange b)
-outOfRange (quiet n) = ltb 65535 n
-outOfRange (openPort a p code sink i) = openOut a p code i
-outOfRange (closePort a) = ltb 4095 a
-outOfRange (writePort a ws) = ltb 4095 a
-outOfRange (readPort a) = ltb 4095 a
-outOfRange (setting t) = settingOut t
-
--- the address of a master word, if its F-code has ports
+-- a bus event and quiet time need an entry only for codes 0 to 4: the address of a master word, if its F-code has ports. To them entry
+-- 0 means no port
 abbrev pub neededFor : Option ℕ → Option ℕ
 neededFor none = none
 neededFor (some w) = cond (hasPorts (codeOf w)) (some (addressOf w)) none
 
--- a bus event needs an entry only for codes 0 to 4: of a sound master, or waited for when a slave is judged
+abbrev pub onBus : Areas → Bool → Option ℕ → List Test
+onBus m out w = areaTest m ∷ rangeTest out ∷ entryTest m (neededFor w) ∷ wordsTest m (neededFor w) ∷ []
+
+-- the word of a sound master, or the one waited for when a slave is judged
 abbrev pub wordOfHeard : Heard → Option ℕ
 wordOfHeard Nothing = none
 wordOfHeard Unsound = none
@@ -71,107 +125,34 @@ wordOfHeard (Master w) = some w
 wordOfHeard (Reply w j) = some w
 wordOfHeard Stray = none
 
--- the address whose index entry a call needs
-unfoldable pub needed : Call → World → Option ℕ
-needed (hear a b) s = neededFor (wordOfHeard (heardBy (s .controller) a b))
-needed (quiet n) s = neededFor (dueWithin n s)
-needed (openPort a p code sink i) s = some a
-needed (closePort a) s = some a
-needed (writePort a ws) s = some a
-needed (readPort a) s = some a
-needed (setting t) s = none
-
-abbrev pub entryAbove : Areas → Option ℕ → Bool
-entryAbove m none = false
-entryAbove m (some a) = ltb 255 (entry m a)
-
--- 6 DAMAGED: an index entry needed is above 255
-abbrev pub badEntry : Call → World → Bool
-badEntry c s = entryAbove (s .areas) (needed c s)
-
--- 3 NOPORT: the index entry is 0 (not on opening); to a bus event entry 0 means no port
-abbrev pub noPort : Call → World → Bool
-noPort (hear a b) s = false
-noPort (quiet n) s = false
-noPort (openPort a p code sink i) s = false
-noPort (closePort a) s = eqb (entry (s .areas) a) 0
-noPort (writePort a ws) s = eqb (entry (s .areas) a) 0
-noPort (readPort a) s = eqb (entry (s .areas) a) 0
-noPort (setting t) s = false
-
--- 4 TAKEN: opening: the address has an entry, or word 1 of that port is not 0
-abbrev pub isTaken : Call → World → Bool
-isTaken (hear a b) s = false
-isTaken (quiet n) s = false
-isTaken (openPort a p code sink i) s = not (eqb (entry (s .areas) a) 0) || not (eqb (portAt (s .areas) p .flags) 0)
-isTaken (closePort a) s = false
-isTaken (writePort a ws) s = false
-isTaken (readPort a) s = false
-isTaken (setting t) s = false
-
--- port words needed are not well formed
-abbrev pub illFormed : Areas → Option ℕ → Bool
-illFormed m none = false
-illFormed m (some a) = not (eqb (entry m a) 0) && not (wellFormed a (portAt m (entry m a)))
-
--- 6 DAMAGED: for the port words (not on opening)
-abbrev pub badWords : Call → World → Bool
-badWords (hear a b) s = illFormed (s .areas) (needed (hear a b) s)
-badWords (quiet n) s = illFormed (s .areas) (needed (quiet n) s)
-badWords (openPort a p code sink i) s = false
-badWords (closePort a) s = illFormed (s .areas) (some a)
-badWords (writePort a ws) s = illFormed (s .areas) (some a)
-badWords (readPort a) s = illFormed (s .areas) (some a)
-badWords (setting t) s = false
-
--- 5 SIDE: the host writes to a sink
-abbrev pub wrongSide : Call → World → Bool
-wrongSide (hear a b) s = false
-wrongSide (quiet n) s = false
-wrongSide (openPort a p code sink i) s = false
-wrongSide (closePort a) s = false
-wrongSide (writePort a ws) s = flagsOf (portAt (s .areas) (entry (s .areas) a) .flags) .sink
-wrongSide (readPort a) s = false
-wrongSide (setting t) s = false
-
--- 2 RANGE: a write has not the port's size
-abbrev pub wrongSize : Call → World → Bool
-wrongSize (hear a b) s = false
-wrongSize (quiet n) s = false
-wrongSize (openPort a p code sink i) s = false
-wrongSize (closePort a) s = false
-wrongSize (writePort a ws) s = not (eqb (length ws) (sizeOf (codeOf (portAt (s .areas) (entry (s .areas) a) .master))))
-wrongSize (readPort a) s = false
-wrongSize (setting t) s = false
-
--- ---- the order: 1, 2, 6 for the entry, 3 or 4, 6 for the port words (not on opening), 5, 2 for the size of a write
-
-pub record Test : Type 0 where
-  pub given : Bool
-  pub number : ℕ
-
-abbrev pub test : Bool → ℕ → Test
-test b n = record { given = b; number = n }
-
+-- both hearings are tested; a setting is lent no area
 abbrev pub tests : Call → World → List Test
-tests c s =
-    test (badArea c s) 1
-    ∷ test (outOfRange c) 2
-    ∷ test (badEntry c s) 6
-    ∷ test (noPort c s) 3
-    ∷ test (isTaken c s) 4
-    ∷ test (badWords c s) 6
-    ∷ test (wrongSide c s) 5
-    ∷ test (wrongSize c s) 2
-    ∷ []
+tests (hear a b) s = onBus (s .areas) (not (inRange a) || not (inRange b)) (wordOfHeard (heardBy (s .controller) a b))
+tests (quiet n) s = onBus (s .areas) (ltb 65535 n) (dueWithin n s)
+tests (openPort a p code sink i) s =
+    areaTest (s .areas) ∷ rangeTest (openOut a p code i) ∷ entryTest (s .areas) (some a) ∷ takenTest (s .areas) a p ∷ []
+tests (closePort a) s = atPort (s .areas) a []
+tests (writePort a ws) s = atPort (s .areas) a (sideTest (s .areas) a ∷ sizeTest (s .areas) a ws ∷ [])
+tests (readPort a) s = atPort (s .areas) a []
+tests (setting t) s = rangeTest (settingOut t) ∷ []
 
 -- the number of the first test that holds, 0 for none
 abbrev pub firstOf : List Test → ℕ
 firstOf [] = 0
-firstOf (t ∷ ts) = cond (t .given) (t .number) (firstOf ts)
+firstOf (t ∷ ts) = cond (t .given) (refusalNumber (t .name)) (firstOf ts)
 
 unfoldable pub refusal : Call → World → ℕ
 refusal c s = firstOf (tests c s)
+
+-- no test of a list holds
+abbrev pub Silent : List Test → Type 0
+Silent [] = Unit
+Silent (t ∷ ts) = (t .given ≡ false) × Silent ts
+
+-- the first test of a list that holds has this number
+pub data First : List Test → ℕ → Type 0 where
+  here : {t : Test} {ts : List Test} → t .given ≡ true → First (t ∷ ts) (refusalNumber (t .name))
+  later : {t : Test} {ts : List Test} {n : ℕ} → t .given ≡ false → First ts n → First (t ∷ ts) n
 
 -- ---- an accepted call
 
@@ -225,15 +206,15 @@ outcome c s = outcomeOf (refusal c s) c s
 
 -- ---- the host's calls on ports, in which the controller plays no part
 
-abbrev pub among : Areas → World
-among m = world freshController m
+abbrev pub freshOver : Areas → World
+freshOver m = world freshController m
 
 -- the number that a call is refused with, 0 where it is accepted, and the areas after it
 unfoldable pub portRefusal : Call → Areas → ℕ
-portRefusal c m = refusal c (among m)
+portRefusal c m = refusal c (freshOver m)
 
 unfoldable pub portAreas : Call → Areas → Areas
-portAreas c m = outcome c (among m) .world .areas
+portAreas c m = outcome c (freshOver m) .world .areas
 
 -- ---- reading
 

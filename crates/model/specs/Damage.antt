@@ -2,7 +2,6 @@
 -- occurs, nor a slave frame sound for the waiting code while one waits. Pasts have the newest call first. Assumes nothing.
 use Prim.Native.Nat.{ℕ}
 use mathlib.Core.Path.{_≡_}
-use mathlib.Core.Logic.{_⊎_}
 use mathlib.Core.Bool.{Bool, true, not}
 use mathlib.Core.List.{List, [], _∷_, _++_}
 use mathlib.Core.Option.{Option, none, some}
@@ -11,11 +10,9 @@ use Rattle.frames.specs.declared.Kind.the-variants.{Silence, Noise, Master, Sla
 use Rattle.frames.specs.declared.Hearing.{Hearing}
 use Rattle.frames.specs.declared.Judgement.the-variants.{Sound}
 use Rattle.frames.specs.Judge.{judgedMaster, judgedSlave}
-use Rattle.model.specs.declared.Faults.{Faults}
-use Rattle.model.specs.Layout.{Areas, portAt}
-use Rattle.model.specs.Ports.{codeOf, markedWords, Effect, untouched, mark}
-use Rattle.model.specs.Calls.{Call, hear, quiet, openPort, closePort, writePort, readPort, setting}
-use Rattle.model.specs.Past.{isSound, awaited}
+use Rattle.model.specs.Ports.{codeOf}
+use Rattle.model.specs.Calls.{Call}
+use Rattle.model.specs.Past.{Happening, hears, passes, sets, changes, happening, OfHeard, isSound, awaited}
 
 -- no sound master frame, nor a slave frame sound for the code of the word o that is waited for
 abbrev pub harmless : Kind → Option ℕ → Hearing → Bool
@@ -25,15 +22,16 @@ harmless Master o h = not (isSound (judgedMaster h))
 harmless Slave none h = true
 harmless Slave (some w) h = not (isSound (judgedSlave (codeOf w) h))
 
--- an event of damage after a past: quiet, or a hearing on each line that is harmless; a host call is none
+-- quiet time is damage, and so is a harmless hearing on each line; what the host does is none
+abbrev pub DamagedBy : List Call → Happening → Type 0
+DamagedBy past (hears a b) = (harmless (a .kind) (awaited past 0) a ≡ true) × (harmless (b .kind) (awaited past 0) b ≡ true)
+DamagedBy past (passes n) = Unit
+DamagedBy past (sets t) = ⊥
+DamagedBy past (changes f) = ⊥
+
+-- an event of damage after a past
 abbrev pub Damaged : List Call → Call → Type 0
-Damaged past (hear a b) = (harmless (a .kind) (awaited past 0) a ≡ true) × (harmless (b .kind) (awaited past 0) b ≡ true)
-Damaged past (quiet n) = Unit
-Damaged past (openPort a p code sink i) = ⊥
-Damaged past (closePort a) = ⊥
-Damaged past (writePort a ws) = ⊥
-Damaged past (readPort a) = ⊥
-Damaged past (setting t) = ⊥
+Damaged past c = DamagedBy past (happening c)
 
 -- a stretch of damage after a past
 abbrev pub Damage : List Call → List Call → Type 0
@@ -42,31 +40,16 @@ Damage before (c ∷ more) = Damaged (more ++ before) c × Damage before more
 
 -- a call in which both lines hear alike
 abbrev pub HeardAlike : Call → Type 0
-HeardAlike (hear a b) = a ≡ b
-HeardAlike (quiet n) = Unit
-HeardAlike (openPort a p code sink i) = Unit
-HeardAlike (closePort a) = Unit
-HeardAlike (writePort a ws) = Unit
-HeardAlike (readPort a) = Unit
-HeardAlike (setting t) = Unit
-
-abbrev pub AllAlike : List Call → Type 0
-AllAlike [] = Unit
-AllAlike (c ∷ more) = HeardAlike c × AllAlike more
+HeardAlike c = OfHeard (λ a b. a ≡ b) (happening c)
 
 -- a sound master frame
 pub record SoundMaster (h : Hearing) : Type 0 where
   pub kind : h .kind ≡ Master
   pub sound : judgedMaster h ≡ Sound
 
--- an effect that changes status bits alone
-pub data Gentle : Effect → Type 0 where
-  still : Gentle untouched
-  marks : {p : ℕ} {x : Faults} → Gentle (mark p x)
-
--- n is m but for status bits: index table and pages are the same, and of each port's words only the status bits may differ
-pub record OnlyStatus (m n : Areas) : Type 0 where
-  pub index : n .index ≡ m .index
-  pub page0 : n .page0 ≡ m .page0
-  pub page1 : n .page1 ≡ m .page1
-  pub ports : (p : ℕ) → (portAt n p ≡ portAt m p) ⊎ ((x : Faults) × (portAt n p ≡ markedWords (portAt m p) x))
+-- a slave frame that is sound for the code of the word that is waited for
+pub record SoundReply (o : Option ℕ) (h : Hearing) : Type 0 where
+  pub word : ℕ
+  pub waits : o ≡ some word
+  pub kind : h .kind ≡ Slave
+  pub sound : judgedSlave (codeOf word) h ≡ Sound

@@ -10,8 +10,6 @@ use Rattle.sequence.specs.Frame.{frameChecks}
 use Rattle.frames.specs.declared.Kind.{Kind}
 use Rattle.frames.specs.declared.Kind.the-variants.{Silence, Noise, Master as MasterFrame, Slave as SlaveFrame}
 use Rattle.frames.specs.declared.Hearing.{Hearing}
-use Rattle.frames.specs.declared.Expected.{Expected}
-use Rattle.frames.specs.declared.Expected.the-variants.{Words as Expects, NoReply}
 use Rattle.frames.specs.declared.Judgement.{Judgement}
 use Rattle.frames.specs.declared.Judgement.the-variants.{Sound, Unsound as Bad}
 use Rattle.frames.specs.Hearing.{wordsOf}
@@ -30,8 +28,8 @@ use Rattle.model.specs.declared.Controller.{Controller}
 use Rattle.model.specs.declared.Heard.{Heard}
 use Rattle.model.specs.declared.Heard.the-variants.{Nothing, Unsound, Master, Reply, Stray}
 use Rattle.model.specs.Layout.{Areas}
-use Rattle.model.specs.Ports.{codeOf, addressOf, hasPorts, View, view, Effect, untouched, fill, mark, replyBad}
-use Rattle.model.specs.Lines.{trusted, observed, arbitration, acts1, rule1, rule3, rule4, isFrame, isPoor}
+use Rattle.model.specs.Ports.{codeOf, addressOf, hasPorts, Standing, standing, Effect, untouched, fill, mark, replyBad}
+use Rattle.model.specs.Lines.{trusted, observed, exempt, acts1, rule1, rule3, rule4, isFrame, isPoor}
 
 -- the controller and the lent areas
 pub record World : Type 0 where
@@ -65,23 +63,23 @@ heard x h = asHeard (h .kind) x h
 -- ---- our ports
 
 -- the port that is open for a master word, exactly this one, if its F-code has ports
-abbrev pub openFor : ℕ → Option View → Option View
+abbrev pub openFor : ℕ → Option Standing → Option Standing
 openFor w none = none
 openFor w (some v) = cond (eqb (v .word) w) (some v) none
 
-unfoldable pub portFor : Areas → ℕ → Option View
-portFor m w = cond (hasPorts (codeOf w)) (openFor w (view m (addressOf w))) none
+unfoldable pub portFor : Areas → ℕ → Option Standing
+portFor m w = cond (hasPorts (codeOf w)) (openFor w (standing m (addressOf w))) none
 
-abbrev pub ifSink : Option View → Option View
+abbrev pub ifSink : Option Standing → Option Standing
 ifSink none = none
 ifSink (some v) = cond (v .sink) (some v) none
 
 -- a SINK port with the word
-abbrev pub sinkFor : Areas → ℕ → Option View
+abbrev pub sinkFor : Areas → ℕ → Option Standing
 sinkFor m w = ifSink (portFor m w)
 
 -- the words of a filled SRC port with the word
-abbrev pub ifSource : Option View → Option (List ℕ)
+abbrev pub ifSource : Option Standing → Option (List ℕ)
 ifSource none = none
 ifSource (some v) = cond (v .sink) none (v .shows)
 
@@ -99,18 +97,18 @@ abbrev pub ownWords : Device → ℕ → Option (List ℕ) → Option (List ℕ)
 ownWords d w none = cond (pollsUs d w && d .set) (some (d .status ∷ [])) none
 ownWords d w (some ws) = some ws
 
-abbrev pub ifExpected : Expected → Option (List ℕ) → Option (List ℕ)
-ifExpected (Expects n) r = r
-ifExpected NoReply r = none
+abbrev pub ifExpected : Option ℕ → Option (List ℕ) → Option (List ℕ)
+ifExpected (some n) r = r
+ifExpected none r = none
 
 -- the words that we answer a sound master frame with, if we do; an unfilled source or an unset status stays silent
 unfoldable pub answerTo : Device → Areas → ℕ → Option (List ℕ)
 answerTo d m w = ifExpected (expectedOf (codeOf w)) (ownWords d w (sourceFor m w))
 
-abbrev pub awaits : Expected → ℕ → Option (List ℕ) → Exchange
-awaits NoReply w r = Idle
-awaits (Expects n) w none = Waiting w
-awaits (Expects n) w (some ws) = Done
+abbrev pub awaits : Option ℕ → ℕ → Option (List ℕ) → Exchange
+awaits none w r = Idle
+awaits (some n) w none = Waiting w
+awaits (some n) w (some ws) = Done
 
 -- codes 5, 6, 7, 10, 11: idle; a reply of ours: done; otherwise waiting
 unfoldable pub exchangeFor : Device → Areas → ℕ → Exchange
@@ -154,30 +152,11 @@ abbrev pub spoken : Option (List ℕ) → Hearing
 spoken none = silent
 spoken (some ws) = sent ws
 
-abbrev pub answerOf : Device → Areas → Heard → Option (List ℕ)
-answerOf d m Nothing = none
-answerOf d m Unsound = none
-answerOf d m (Master w) = answerTo d m w
-answerOf d m (Reply w j) = none
-answerOf d m Stray = none
+-- ---- what an event brings
 
--- ---- what becomes of each part
-
--- unsound master: idle; sound master: as above; slave while waiting: done
-abbrev pub exchangeAfter : Device → Areas → Exchange → Heard → Exchange
-exchangeAfter d m x Nothing = x
-exchangeAfter d m x Unsound = Idle
-exchangeAfter d m x (Master w) = exchangeFor d m w
-exchangeAfter d m x (Reply w j) = Done
-exchangeAfter d m x Stray = x
-
--- sound master: the time since the last sound master and the line count return to 0, and the chosen reply time is adopted
-abbrev pub timesAfter : Times → Heard → Times
-timesAfter t Nothing = t
-timesAfter t Unsound = t
-timesAfter t (Master w) = record { since = 0; line = 0; chosen = t .chosen; adopted = t .chosen }
-timesAfter t (Reply w j) = t
-timesAfter t Stray = t
+-- both counts of times return to 0, and the chosen reply time is adopted
+abbrev pub timesRestarted : Times → Times
+timesRestarted t = record { since = 0; line = 0; chosen = t .chosen; adopted = t .chosen }
 
 -- a judged frame: FC counts it modulo 65,536; EC counts it if it is unsound, and stops at 65,535
 abbrev pub judgedOne : Bool → Counts → Counts
@@ -187,13 +166,6 @@ judgedOne unsound n =
 abbrev pub isBad : Judgement → Bool
 isBad Sound = false
 isBad (Bad crc) = true
-
-abbrev pub countsAfter : Counts → Heard → Counts
-countsAfter n Nothing = n
-countsAfter n Unsound = judgedOne true n
-countsAfter n (Master w) = judgedOne false n
-countsAfter n (Reply w j) = judgedOne (isBad j) n
-countsAfter n Stray = n
 
 -- bits raised one after the other
 abbrev pub raiseAll : List ℕ → Group → Group
@@ -216,7 +188,7 @@ isDone (Waiting w) = false
 isDone Done = true
 
 -- a port's data transfer interrupt, if it has one
-abbrev pub interruptOf : Option View → List ℕ
+abbrev pub interruptOf : Option Standing → List ℕ
 interruptOf none = []
 interruptOf (some v) = when (not (eqb (v .interrupt) 0)) (dataTransfer (v .interrupt))
 
@@ -225,60 +197,114 @@ abbrev pub raisedByReply : Areas → ℕ → Judgement → List ℕ
 raisedByReply m w Sound = interruptOf (sinkFor m w)
 raisedByReply m w (Bad crc) = ESF ∷ []
 
--- EMF for an unsound master; DMF if a sound one finds an equal word waited for; SFC for every slave frame; DSF too if done and less
--- than the reply time has passed since the last sound master
-abbrev pub raised0 : Areas → Exchange → Times → Heard → List ℕ
-raised0 m x t Nothing = []
-raised0 m x t Unsound = EMF ∷ []
-raised0 m x t (Master w) = when (waitsFor x w) DMF
-raised0 m x t (Reply w j) = SFC ∷ raisedByReply m w j
-raised0 m x t Stray = SFC ∷ when (isDone x && ltb (t .since) (t .adopted)) DSF
-
--- FEV when FC returns to 0
-abbrev pub counted : Heard → Bool
-counted Nothing = false
-counted Unsound = true
-counted (Master w) = true
-counted (Reply w j) = true
-counted Stray = false
-
-abbrev pub raised1 : Counts → Heard → List ℕ
-raised1 n h = when (counted h && eqb (countsAfter n h .fc) 0) FEV
-
--- a judged unsound frame, the waiting code not 9, 13 or 14; an unsound master always counts
-abbrev pub disturbs : Heard → Bool
-disturbs Nothing = false
-disturbs Unsound = true
-disturbs (Master w) = false
-disturbs (Reply w j) = isBad j && not (arbitration (codeOf w))
-disturbs Stray = false
-
-abbrev pub polls : Device → Heard → Bool
-polls d Nothing = false
-polls d Unsound = false
-polls d (Master w) = pollsUs d w
-polls d (Reply w j) = false
-polls d Stray = false
-
--- rules 1, 4 and 3, in this order; l are the lines at the start of the event
-abbrev pub linesAfter : Device → Lines → Heard → Hearing → Hearing → Lines
-linesAfter d l h t o =
-    rule3 (polls d h)
-    (rule4 (not (acts1 (disturbs h) l) && isFrame (t .kind) && isPoor o)
-    (rule1 (disturbs h) l))
-
 -- a sound slave frame fills the sink port with the waiting word; of an unsound one only the status bits change
-abbrev pub taken : Option View → Judgement → Hearing → Effect
+abbrev pub taken : Option Standing → Judgement → Hearing → Effect
 taken none j h = untouched
 taken (some v) Sound h = fill (v .port) (wordsOf h)
 taken (some v) (Bad crc) h = mark (v .port) (replyBad crc (h .sqe) (h .alo))
 
-abbrev pub effectOf : Areas → Heard → Hearing → Effect
-effectOf m Nothing h = untouched
-effectOf m Unsound h = untouched
-effectOf m (Master w) h = untouched
-effectOf m (Reply w j) h = taken (sinkFor m w) j h
-effectOf m Stray h = untouched
+pub record Brings : Type 0 where
+  pub exchange : Exchange
+  pub times : Times
+  -- the bits that are raised in group 0
+  pub raises : List ℕ
+  -- whether a judged frame was unsound, if one was judged
+  pub judged : Option Bool
+  -- the occasions of rules 1 and 3
+  pub disturbs : Bool
+  pub polls : Bool
+  -- what becomes of the areas, and the words that we reply, if we do
+  pub effect : Effect
+  pub answer : Option (List ℕ)
+
+-- One equation for each thing that the trusted line may have heard. Nothing: silence or noise is ignored. Unsound: an unsound master
+-- frame, EMF and idle. Master: a sound master frame, DMF if an equal word is waited for. Reply: a slave frame while waiting, SFC and done;
+-- it disturbs if it is unsound and the waiting code is not 9, 13 or 14. Stray: a slave frame while idle or done, SFC, and DSF too if done
+-- and less than the reply time has passed since the last sound master
+abbrev pub brings : Controller → Areas → Hearing → Heard → Brings
+brings c m h Nothing =
+    record {
+      exchange = c .exchange;
+      times = c .times;
+      raises = [];
+      judged = none;
+      disturbs = false;
+      polls = false;
+      effect = untouched;
+      answer = none;
+    }
+brings c m h Unsound =
+    record {
+      exchange = Idle;
+      times = c .times;
+      raises = EMF ∷ [];
+      judged = some true;
+      disturbs = true;
+      polls = false;
+      effect = untouched;
+      answer = none;
+    }
+brings c m h (Master w) =
+    record {
+      exchange = exchangeFor (c .device) m w;
+      times = timesRestarted (c .times);
+      raises = when (waitsFor (c .exchange) w) DMF;
+      judged = some false;
+      disturbs = false;
+      polls = pollsUs (c .device) w;
+      effect = untouched;
+      answer = answerTo (c .device) m w;
+    }
+brings c m h (Reply w j) =
+    record {
+      exchange = Done;
+      times = c .times;
+      raises = SFC ∷ raisedByReply m w j;
+      judged = some (isBad j);
+      disturbs = isBad j && not (exempt (codeOf w));
+      polls = false;
+      effect = taken (sinkFor m w) j h;
+      answer = none;
+    }
+brings c m h Stray =
+    record {
+      exchange = c .exchange;
+      times = c .times;
+      raises = SFC ∷ when (isDone (c .exchange) && ltb (c .times .since) (c .times .adopted)) DSF;
+      judged = none;  -- it is not judged
+      disturbs = false;
+      polls = false;
+      effect = untouched;
+      answer = none;
+    }
+
+-- the counts after it, and FEV when FC returns to 0
+abbrev pub counting : Option Bool → Counts → Counts
+counting none n = n
+counting (some unsound) n = judgedOne unsound n
+
+abbrev pub overflow : Option Bool → Counts → List ℕ
+overflow none n = []
+overflow (some unsound) n = when (eqb (judgedOne unsound n .fc) 0) FEV
+
+-- rules 1, 4 and 3, in this order; l are the lines at the start of the event
+abbrev pub ruled : Bool → Bool → Lines → Hearing → Hearing → Lines
+ruled disturbed polled l t o =
+    rule3 polled
+    (rule4 (not (acts1 disturbed l) && isFrame (t .kind) && isPoor o)
+    (rule1 disturbed l))
+
+abbrev pub brought : Brings → Controller → Hearing → Hearing → Controller
+brought e c t o =
+    record {
+      exchange = e .exchange;
+      times = e .times;
+      lines = ruled (e .disturbs) (e .polls) (c .lines) t o;
+      counts = counting (e .judged) (c .counts);
+      group0 = raiseAll (e .raises) (c .group0);
+      group1 = raiseAll (overflow (e .judged) (c .counts)) (c .group1);
+      device = c .device;
+    }
 
 -- ---- the event: the trusted line is the one at its start
 
@@ -286,26 +312,16 @@ effectOf m Stray h = untouched
 unfoldable pub heardBy : Controller → Hearing → Hearing → Heard
 heardBy c a b = heard (c .exchange) (trusted (c .lines) a b)
 
-abbrev pub controllerAfter : Controller → Areas → Heard → Hearing → Hearing → Controller
-controllerAfter c m h t o =
-    record {
-      exchange = exchangeAfter (c .device) m (c .exchange) h;
-      times = timesAfter (c .times) h;
-      lines = linesAfter (c .device) (c .lines) h t o;
-      counts = countsAfter (c .counts) h;
-      group0 = raiseAll (raised0 m (c .exchange) (c .times) h) (c .group0);
-      group1 = raiseAll (raised1 (c .counts) h) (c .group1);
-      device = c .device;
-    }
+-- what it brings
+unfoldable pub event : World → Hearing → Hearing → Brings
+event s a b = let c = s .controller in brings c (s .areas) (trusted (c .lines) a b) (heardBy c a b)
 
 unfoldable pub hearController : World → Hearing → Hearing → Controller
-hearController s a b =
-    let c = s .controller in
-    controllerAfter c (s .areas) (heardBy c a b) (trusted (c .lines) a b) (observed (c .lines) a b)
+hearController s a b = let c = s .controller in brought (event s a b) c (trusted (c .lines) a b) (observed (c .lines) a b)
 
 unfoldable pub hearEffect : World → Hearing → Hearing → Effect
-hearEffect s a b = effectOf (s .areas) (heardBy (s .controller) a b) (trusted (s .controller .lines) a b)
+hearEffect s a b = event s a b .effect
 
 -- the words that we reply, if we do
 unfoldable pub hearAnswer : World → Hearing → Hearing → Option (List ℕ)
-hearAnswer s a b = answerOf (s .controller .device) (s .areas) (heardBy (s .controller) a b)
+hearAnswer s a b = event s a b .answer

@@ -3,29 +3,23 @@
 use Prim.Native.Nat.{ℕ}
 use mathlib.Core.Bool.{Bool, true, false, not, _||_}
 use lib.Dec.{eqb, ltb}
-use Rattle.interrupts.specs.declared.Group.{Group}
 use Rattle.interrupts.specs.Group.{fresh}
 use Rattle.interrupts.specs.Names.{used0, used1}
-use Rattle.interrupts.specs.Shape.{Call as GroupCall, after}
-use Rattle.model.specs.declared.Exchange.{Exchange}
+use Rattle.interrupts.specs.Calls.{Call as GroupCall, groupAfter}
 use Rattle.model.specs.declared.Exchange.the-variants.{Idle}
-use Rattle.model.specs.declared.Times.{Times}
-use Rattle.model.specs.declared.Lines.{Lines}
 use Rattle.model.specs.declared.Counts.{Counts}
 use Rattle.model.specs.declared.Device.{Device}
 use Rattle.model.specs.declared.Controller.{Controller}
 use Rattle.model.specs.Lines.{lines, freshLines}
+use Rattle.model.specs.Parts.{withTimes, withLines, withCounts, withGroup0, withGroup1, withDevice}
 use Rattle.model.specs.Quiet.{times, firstReplyTime}
+pub use Rattle.model.specs.Parts.{controller}
 
 abbrev pub device : ℕ → Bool → ℕ → Device
 device a s w = record { address = a; set = s; status = w }
 
 abbrev pub counts : ℕ → ℕ → Counts
 counts f e = record { fc = f; ec = e }
-
-abbrev pub controller : Exchange → Times → Lines → Counts → Group → Group → Device → Controller
-controller x t l n g0 g1 d =
-    record { exchange = x; times = t; lines = l; counts = n; group0 = g0; group1 = g1; device = d }
 
 -- fresh, the exchange is idle with all times and counts 0; the device address is first 0, and no status word is set
 unfoldable pub freshController : Controller
@@ -60,20 +54,12 @@ settingOut (group1 g) = false
 
 -- the controller after a setting
 unfoldable pub tell : Setting → Controller → Controller
-tell (address a) c =
-    controller (c .exchange) (c .times) (c .lines) (c .counts) (c .group0) (c .group1) (device a (c .device .set) (c .device .status))
-tell (status w) c =
-    controller (c .exchange) (c .times) (c .lines) (c .counts) (c .group0) (c .group1) (device (c .device .address) true w)
-tell (replyTime t) c =
-    controller (c .exchange) (times (c .times .since) (c .times .line) t (c .times .adopted)) (c .lines) (c .counts) (c .group0)
-    (c .group1) (c .device)
-tell (slm b) c =
-    controller (c .exchange) (c .times) (lines (c .lines .laa) (c .lines .rld) (c .lines .ls) b) (c .counts) (c .group0) (c .group1)
-    (c .device)
-tell (ls b) c =
-    controller (c .exchange) (c .times) (lines (c .lines .laa) (c .lines .rld) b (c .lines .slm)) (c .counts) (c .group0) (c .group1)
-    (c .device)
-tell clearEC c = controller (c .exchange) (c .times) (c .lines) (counts (c .counts .fc) 0) (c .group0) (c .group1) (c .device)
+tell (address a) c = withDevice (device a (c .device .set) (c .device .status)) c
+tell (status w) c = withDevice (device (c .device .address) true w) c
+tell (replyTime t) c = withTimes (times (c .times .since) (c .times .line) t (c .times .adopted)) c
+tell (slm b) c = withLines (lines (c .lines .laa) (c .lines .rld) (c .lines .ls) b) c
+tell (ls b) c = withLines (lines (c .lines .laa) (c .lines .rld) b (c .lines .slm)) c
+tell clearEC c = withCounts (counts (c .counts .fc) 0) c
 tell reset c = freshController
-tell (group0 g) c = controller (c .exchange) (c .times) (c .lines) (c .counts) (after g (c .group0)) (c .group1) (c .device)
-tell (group1 g) c = controller (c .exchange) (c .times) (c .lines) (c .counts) (c .group0) (after g (c .group1)) (c .device)
+tell (group0 g) c = withGroup0 (groupAfter g (c .group0)) c
+tell (group1 g) c = withGroup1 (groupAfter g (c .group1)) c

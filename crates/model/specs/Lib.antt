@@ -1,10 +1,12 @@
 pub mod Layout
 pub mod Ports
-pub mod Shape
 pub mod Lines
+pub mod Parts
 pub mod Event
 pub mod Quiet
 pub mod Host
 pub mod Calls
 pub mod Past
+pub mod Taken
 pub mod Damage
+pub mod Differ

@@ -21,35 +21,35 @@ trusted l a b = cond (l .laa) a b
 abbrev pub observed : Lines → Hearing → Hearing → Hearing
 observed l a b = cond (l .laa) b a
 
--- switching turns LAA; with SLM no rule switches
-abbrev pub switchIf : Bool → Lines → Bool
-switchIf when l = cond (when && not (l .slm)) (not (l .laa)) (l .laa)
+-- switching turns LAA
+abbrev pub switched : Lines → Lines
+switched l = lines (not (l .laa)) (l .rld) (l .ls) (l .slm)
 
--- nor sets RLD
-abbrev pub disturbedIf : Bool → Lines → Bool
-disturbedIf when l = l .rld || (when && not (l .slm))
+abbrev pub withRLD : Bool → Lines → Lines
+withRLD b l = lines (l .laa) b (l .ls) (l .slm)
 
-abbrev pub switchAndSet : Bool → Lines → Lines
-switchAndSet when l = lines (switchIf when l) (disturbedIf when l) (l .ls) (l .slm)
+-- with SLM no rule switches or sets RLD
+abbrev pub unlessSLM : Lines → Lines → Lines
+unlessSLM new l = cond (l .slm) l new
 
 -- F-codes 9, 13 and 14
-abbrev pub arbitration : ℕ → Bool
-arbitration code = eqb code 9 || eqb code 13 || eqb code 14
+abbrev pub exempt : ℕ → Bool
+exempt code = eqb code 9 || eqb code 13 || eqb code 14
 
 -- rule 1 acts on a judged unsound frame or a reply timeout with RLD clear and SLM clear
 abbrev pub acts1 : Bool → Lines → Bool
 acts1 occasion l = occasion && not (l .rld) && not (l .slm)
 
 unfoldable pub rule1 : Bool → Lines → Lines
-rule1 occasion l = switchAndSet (occasion && not (l .rld)) l
+rule1 occasion l = cond (occasion && not (l .rld)) (unlessSLM (withRLD true (switched l)) l) l
 
 -- rule 2: line timeout
 unfoldable pub rule2 : Bool → Lines → Lines
-rule2 timeout l = switchAndSet timeout l
+rule2 timeout l = cond timeout (unlessSLM (withRLD true (switched l)) l) l
 
 -- rule 3: a sound status poll to our address switches if RLD is clear, and clears RLD
 unfoldable pub rule3 : Bool → Lines → Lines
-rule3 polled l = lines (switchIf (polled && not (l .rld)) l) (cond polled false (l .rld)) (l .ls) (l .slm)
+rule3 polled l = cond polled (withRLD false (cond (l .rld) l (unlessSLM (switched l) l))) l
 
 -- a frame, whatever its kind and quality
 abbrev pub isFrame : Kind → Bool
@@ -64,11 +64,11 @@ isPoor h = not (isFrame (h .kind)) || h .sqe || h .violation
 
 -- rule 4: the trusted line heard a frame, and the observed line has silence, noise, SQE or a violation
 unfoldable pub rule4 : Bool → Lines → Lines
-rule4 poorer l = lines (l .laa) (disturbedIf poorer l) (l .ls) (l .slm)
+rule4 poorer l = cond poorer (unlessSLM (withRLD true l) l) l
 
 -- rule 5: LS filed by the host acts with RLD and SLM clear, then clears
 abbrev pub acts5 : Lines → Bool
 acts5 l = l .ls && not (l .rld) && not (l .slm)
 
 unfoldable pub rule5 : Lines → Lines
-rule5 l = lines (cond (acts5 l) (not (l .laa)) (l .laa)) (l .rld) (cond (acts5 l) false (l .ls)) (l .slm)
+rule5 l = cond (acts5 l) (lines (not (l .laa)) (l .rld) false (l .slm)) l

@@ -11,19 +11,17 @@ use lib.ListN.{length, getD}
 use Rattle.frames.specs.declared.Kind.{Kind}
 use Rattle.frames.specs.declared.Kind.the-variants.{Silence, Noise, Master, Slave}
 use Rattle.frames.specs.declared.Hearing.{Hearing}
-use Rattle.frames.specs.declared.Expected.{Expected}
-use Rattle.frames.specs.declared.Expected.the-variants.{Words, NoReply}
 use Rattle.frames.specs.declared.Judgement.{Judgement}
 use Rattle.frames.specs.declared.Judgement.the-variants.{Sound, Unsound}
 use Rattle.frames.specs.Hearing.{wordsOf}
 use Rattle.frames.specs.Size.{expectedOf}
 use Rattle.frames.specs.Judge.{judgedMaster, judgedSlave}
-use Rattle.model.specs.Ports.{masterWord, codeOf, addressOf, View}
+use Rattle.model.specs.Ports.{masterWord, codeOf, addressOf, hasPorts, View, refilled}
 use Rattle.model.specs.Lines.{trusted}
 use Rattle.model.specs.Event.{World}
 use Rattle.model.specs.Quiet.{firstReplyTime}
 use Rattle.model.specs.Host.{Setting, address, status, replyTime, slm, ls, clearEC, reset, group0, group1}
-use Rattle.model.specs.Calls.{Call, hear, quiet, openPort, closePort, writePort, readPort, setting, refusal, step, answer, start}
+use Rattle.model.specs.Calls.{Call, hear, quiet, openPort, closePort, writePort, readPort, setting, refusal, step, start}
 
 -- ---- runs
 
@@ -32,15 +30,63 @@ unfoldable pub after : List Call → World
 after [] = start
 after (c ∷ past) = step c (after past)
 
+-- ---- what a call is to the past: each call says it once
+
+-- what stands open at an address
+pub record Opening : Type 0 where
+  pub port : ℕ
+  pub word : ℕ
+  pub sink : Bool
+  pub interrupt : ℕ
+
+abbrev pub opening : ℕ → ℕ → ℕ → Bool → ℕ → Opening
+opening a p code sink i = record { port = p; word = masterWord code a; sink = sink; interrupt = i }
+
+-- what becomes of an address: nothing, it is opened anew, it is closed, or the host writes words to it
+pub data Change : Type 0 where
+  keeps : Change
+  opens : Opening → Change
+  closes : Change
+  writes : List ℕ → Change
+
+-- the lines hear, quiet time passes, the host sets the controller, or addresses change
+pub data Happening : Type 0 where
+  hears : (a b : Hearing) → Happening
+  passes : (n : ℕ) → Happening
+  sets : Setting → Happening
+  changes : (ℕ → Change) → Happening
+
+-- a change of address b alone
+abbrev pub onlyAt : ℕ → Change → ℕ → Change
+onlyAt b x a = cond (eqb b a) x keeps
+
+-- what each call is
+abbrev pub happening : Call → Happening
+happening (hear a b) = hears a b
+happening (quiet n) = passes n
+happening (openPort a p code sink i) = changes (onlyAt a (opens (opening a p code sink i)))
+happening (closePort a) = changes (onlyAt a closes)
+happening (writePort a ws) = changes (onlyAt a (writes ws))
+happening (readPort a) = changes (λ b. keeps)
+happening (setting t) = sets t
+
+-- the lines heard something
+abbrev pub isHeard : Happening → Bool
+isHeard (hears a b) = true
+isHeard (passes n) = false
+isHeard (sets t) = false
+isHeard (changes f) = false
+
+-- something holds of what the lines heard, where they heard something
+abbrev pub OfHeard : (Hearing → Hearing → Type 0) → Happening → Type 0
+OfHeard P (hears a b) = P a b
+OfHeard P (passes n) = Unit
+OfHeard P (sets t) = Unit
+OfHeard P (changes f) = Unit
+
 -- what the types say of a call's arguments: a hearing's array has sixteen words
 abbrev pub Typed : Call → Type 0
-Typed (hear a b) = (length (a .words) ≡ 16) × (length (b .words) ≡ 16)
-Typed (quiet n) = Unit
-Typed (openPort a p code sink i) = Unit
-Typed (closePort a) = Unit
-Typed (writePort a ws) = Unit
-Typed (readPort a) = Unit
-Typed (setting t) = Unit
+Typed c = OfHeard (λ a b. (length (a .words) ≡ 16) × (length (b .words) ≡ 16)) (happening c)
 
 -- every call of the past was accepted: a refused call is no step of a run
 abbrev pub Accepted : List Call → Type 0
@@ -52,12 +98,6 @@ Accepted (c ∷ past) = Typed c × (refusal c (after past) ≡ 0) × Accepted pa
 -- what the trusted line heard, after a past
 abbrev pub onTrusted : List Call → Hearing → Hearing → Hearing
 onTrusted past a b = trusted (after past .controller .lines) a b
-
-abbrev pub isMaster : Kind → Bool
-isMaster Silence = false
-isMaster Noise = false
-isMaster Master = true
-isMaster Slave = false
 
 abbrev pub isSlave : Kind → Bool
 isSlave Silence = false
@@ -98,140 +138,79 @@ clears reset = true
 clears (group0 g) = false
 clears (group1 g) = false
 
--- the reply time that the host chose last
+-- what the settings of a past leave: the device address, the status word last set, if one was, and the chosen reply time
+pub record Settings : Type 0 where
+  pub address : ℕ
+  pub status : Option ℕ
+  pub replyTime : ℕ
 
-abbrev pub chosenBy : Setting → ℕ → ℕ
-chosenBy (address a) t = t
-chosenBy (status w) t = t
-chosenBy (replyTime u) t = u
-chosenBy (slm b) t = t
-chosenBy (ls b) t = t
-chosenBy clearEC t = t
-chosenBy reset t = firstReplyTime
-chosenBy (group0 g) t = t
-chosenBy (group1 g) t = t
+abbrev pub settings : ℕ → Option ℕ → ℕ → Settings
+settings a s t = record { address = a; status = s; replyTime = t }
 
--- what the settings of a past leave of something that begins as z
-unfoldable pub lastSet : {A : Type 0} → A → (Setting → A → A) → List Call → A
-lastSet z f [] = z
-lastSet z f (hear a b ∷ past) = lastSet z f past
-lastSet z f (quiet n ∷ past) = lastSet z f past
-lastSet z f (openPort a p code sink i ∷ past) = lastSet z f past
-lastSet z f (closePort a ∷ past) = lastSet z f past
-lastSet z f (writePort a ws ∷ past) = lastSet z f past
-lastSet z f (readPort a ∷ past) = lastSet z f past
-lastSet z f (setting t ∷ past) = f t (lastSet z f past)
+-- at first, and after a reset
+abbrev pub freshSettings : Settings
+freshSettings = settings 0 none firstReplyTime
 
-unfoldable pub chosenIn : List Call → ℕ
-chosenIn past = lastSet firstReplyTime chosenBy past
+-- what each setting makes of them
+abbrev pub settingsBy : Setting → Settings → Settings
+settingsBy (address a) x = settings a (x .status) (x .replyTime)
+settingsBy (status w) x = settings (x .address) (some w) (x .replyTime)
+settingsBy (replyTime t) x = settings (x .address) (x .status) t
+settingsBy (slm b) x = x
+settingsBy (ls b) x = x
+settingsBy clearEC x = x
+settingsBy reset x = freshSettings
+settingsBy (group0 g) x = x
+settingsBy (group1 g) x = x
 
--- ---- the master word that is waited for
+-- nothing else changes them
+abbrev pub settingsAfter : Happening → Settings → Settings
+settingsAfter (hears a b) x = x
+settingsAfter (passes n) x = x
+settingsAfter (sets t) x = settingsBy t x
+settingsAfter (changes f) x = x
 
--- a master frame asks somebody else: its code expects a reply, and we gave none
-abbrev pub asksOthers : Expected → Option (List ℕ) → Bool
-asksOthers (Words n) none = true
-asksOthers (Words n) (some ws) = false
-asksOthers NoReply r = false
-
--- a frame of the trusted line ends what was waited for before it; a sound master frame may begin a new wait
-abbrev pub waitAfter : Kind → Judgement → Option ℕ → Option ℕ → Option ℕ
-waitAfter Silence j before begun = before
-waitAfter Noise j before begun = before
-waitAfter Master Sound before begun = begun
-waitAfter Master (Unsound crc) before begun = none
-waitAfter Slave j before begun = none
-
--- the word that is waited for after a past and q quiet bit times more: that of the last sound master frame that asked somebody else,
--- while no frame and no reset followed it and the reply time that was chosen when it came has not passed
-unfoldable pub awaited : List Call → ℕ → Option ℕ
-awaited [] q = none
-awaited (hear a b ∷ past) q =
-    let h = onTrusted past a b in
-    let asks = asksOthers (expectedOf (codeOf (firstWord h))) (answer (hear a b) (after past)) in
-    waitAfter (h .kind) (judgedMaster h) (awaited past q) (cond (asks && ltb q (chosenIn past)) (some (firstWord h)) none)
-awaited (quiet n ∷ past) q = awaited past (n + q)
-awaited (openPort a p code sink i ∷ past) q = awaited past q
-awaited (closePort a ∷ past) q = awaited past q
-awaited (writePort a ws ∷ past) q = awaited past q
-awaited (readPort a ∷ past) q = awaited past q
-awaited (setting t ∷ past) q = cond (isReset t) none (awaited past q)
-
--- ---- answers
-
-abbrev pub isWord : Option ℕ → ℕ → Bool
-isWord none w = false
-isWord (some v) w = eqb v w
-
--- a slave frame of the trusted line is a sound answer to the master word w: it is judged while w is waited for
-unfoldable pub answers : List Call → Hearing → Hearing → ℕ → Bool
-answers past a b w =
-    let h = onTrusted past a b in
-    isSlave (h .kind) && isWord (awaited past 0) w && isSound (judgedSlave (codeOf w) h)
+unfoldable pub lastSettings : List Call → Settings
+lastSettings [] = freshSettings
+lastSettings (c ∷ past) = settingsAfter (happening c) (lastSettings past)
 
 -- ---- what stands open at an address, from the past alone
 
-pub record Opening : Type 0 where
-  pub port : ℕ
-  pub word : ℕ
-  pub sink : Bool
-  pub interrupt : ℕ
+-- what becomes of an address
+abbrev pub changeOf : Happening → ℕ → Change
+changeOf (hears x y) a = keeps
+changeOf (passes n) a = keeps
+changeOf (sets t) a = keeps
+changeOf (changes f) a = f a
 
-abbrev pub opening : ℕ → ℕ → ℕ → Bool → ℕ → Opening
-opening a p code sink i = record { port = p; word = masterWord code a; sink = sink; interrupt = i }
+-- what a change leaves open
+abbrev pub leaves : Change → Option Opening → Option Opening
+leaves keeps o = o
+leaves (opens x) o = some x
+leaves closes o = none
+leaves (writes ws) o = o
 
 -- the last opening of address a that was not followed by a closing
 unfoldable pub openingOf : List Call → ℕ → Option Opening
 openingOf [] a = none
-openingOf (hear x y ∷ past) a = openingOf past a
-openingOf (quiet n ∷ past) a = openingOf past a
-openingOf (openPort b p code sink i ∷ past) a = cond (eqb b a) (some (opening b p code sink i)) (openingOf past a)
-openingOf (closePort b ∷ past) a = cond (eqb b a) none (openingOf past a)
-openingOf (writePort b ws ∷ past) a = openingOf past a
-openingOf (readPort b ∷ past) a = openingOf past a
-openingOf (setting t ∷ past) a = openingOf past a
+openingOf (c ∷ past) a = leaves (changeOf (happening c) a) (openingOf past a)
 
--- the words of the sound slave frames that answered the master word w since address a was opened, the newest first
-unfoldable pub answersSince : List Call → ℕ → ℕ → List (List ℕ)
-answersSince [] a w = []
-answersSince (hear x y ∷ past) a w =
-    cond (answers past x y w) (wordsOf (onTrusted past x y) ∷ answersSince past a w) (answersSince past a w)
-answersSince (quiet n ∷ past) a w = answersSince past a w
-answersSince (openPort b p code sink i ∷ past) a w = cond (eqb b a) [] (answersSince past a w)
-answersSince (closePort b ∷ past) a w = answersSince past a w
-answersSince (writePort b ws ∷ past) a w = answersSince past a w
-answersSince (readPort b ∷ past) a w = answersSince past a w
-answersSince (setting t ∷ past) a w = answersSince past a w
+-- what the host writes is added, and an opening begins anew
+abbrev pub written : Change → List (List ℕ) → List (List ℕ)
+written keeps l = l
+written (opens x) l = []
+written closes l = l
+written (writes ws) l = ws ∷ l
 
 -- the words that the host wrote to address a since it was opened, the newest first
 unfoldable pub writesSince : List Call → ℕ → List (List ℕ)
 writesSince [] a = []
-writesSince (hear x y ∷ past) a = writesSince past a
-writesSince (quiet n ∷ past) a = writesSince past a
-writesSince (openPort b p code sink i ∷ past) a = cond (eqb b a) [] (writesSince past a)
-writesSince (closePort b ∷ past) a = writesSince past a
-writesSince (writePort b ws ∷ past) a = cond (eqb b a) (ws ∷ writesSince past a) (writesSince past a)
-writesSince (readPort b ∷ past) a = writesSince past a
-writesSince (setting t ∷ past) a = writesSince past a
+writesSince (c ∷ past) a = written (changeOf (happening c) a) (writesSince past a)
 
 -- the last of them, or that there was none
 abbrev pub lastOf : List (List ℕ) → Option (List ℕ)
 lastOf [] = none
 lastOf (ws ∷ wss) = some ws
-
--- ---- what the past says of an address
-
--- what fills a port: the sound answers fill a sink, the host's writes a source
-abbrev pub fillings : List Call → ℕ → Opening → List (List ℕ)
-fillings past a o = cond (o .sink) (answersSince past a (o .word)) (writesSince past a)
-
--- an opened port that shows these words and has so many fills
-abbrev pub viewWith : Opening → Option (List ℕ) → ℕ → View
-viewWith o ws n = record { port = o .port; word = o .word; sink = o .sink; interrupt = o .interrupt; shows = ws; fills = n }
-
--- it shows the last of these, and its fills are their number modulo 65,536
-abbrev pub toldView : List Call → ℕ → Option Opening → Option View
-toldView past a none = none
-toldView past a (some o) = some (viewWith o (lastOf (fillings past a o)) (length (fillings past a o) % 65536))
 
 -- ---- replies, from the past alone
 
@@ -245,22 +224,114 @@ abbrev pub statusTold : Option ℕ → Option (List ℕ)
 statusTold none = none
 statusTold (some s) = some (s ∷ [])
 
--- ---- the status word, and the counts, since the last reset
+-- the words that a sound master frame with the word w is answered with, for each of the sixteen F-codes. Codes 0 to 4: what the open
+-- source with exactly this word was last written. Code 15 with our device address: the status word last set. No other is answered.
+unfoldable pub replyTold : List Call → ℕ → Option (List ℕ)
+replyTold past w =
+    cond (hasPorts (codeOf w)) (sourceTold past w (openingOf past (addressOf w)))
+    (cond (eqb (codeOf w) 15 && eqb (addressOf w) (lastSettings past .address)) (statusTold (lastSettings past .status)) none)
 
-abbrev pub statusBy : Setting → Option ℕ → Option ℕ
-statusBy (address a) s = s
-statusBy (status w) s = some w
-statusBy (replyTime t) s = s
-statusBy (slm b) s = s
-statusBy (ls b) s = s
-statusBy clearEC s = s
-statusBy reset s = none
-statusBy (group0 g) s = s
-statusBy (group1 g) s = s
+-- only a sound master frame is answered
+abbrev pub ifMaster : Kind → Judgement → Option (List ℕ) → Option (List ℕ)
+ifMaster Silence j r = none
+ifMaster Noise j r = none
+ifMaster Master Sound r = r
+ifMaster Master (Unsound crc) r = none
+ifMaster Slave j r = none
 
--- the status word last set
-unfoldable pub lastStatus : List Call → Option ℕ
-lastStatus past = lastSet none statusBy past
+-- the words that we reply to an event, if we do
+unfoldable pub replyIn : List Call → Hearing → Hearing → Option (List ℕ)
+replyIn past a b = let h = onTrusted past a b in ifMaster (h .kind) (judgedMaster h) (replyTold past (firstWord h))
+
+-- ---- the master word that is waited for
+
+-- a master frame asks somebody else: its code expects a reply, and we gave none
+abbrev pub asksOthers : Option ℕ → Option (List ℕ) → Bool
+asksOthers (some n) none = true
+asksOthers (some n) (some ws) = false
+asksOthers none r = false
+
+-- a frame of the trusted line ends what was waited for before it; a sound master frame may begin a new wait
+abbrev pub waitAfter : Kind → Judgement → Option ℕ → Option ℕ → Option ℕ
+waitAfter Silence j before begun = before
+waitAfter Noise j before begun = before
+waitAfter Master Sound before begun = begun
+waitAfter Master (Unsound crc) before begun = none
+waitAfter Slave j before begun = none
+
+-- what is waited for after one happening more, from what was waited for before it
+abbrev pub waitBy : List Call → Happening → (ℕ → Option ℕ) → ℕ → Option ℕ
+waitBy past (hears a b) before q =
+    let h = onTrusted past a b in
+    let asks = asksOthers (expectedOf (codeOf (firstWord h))) (replyTold past (firstWord h)) in
+    waitAfter (h .kind) (judgedMaster h) (before q) (cond (asks && ltb q (lastSettings past .replyTime)) (some (firstWord h)) none)
+waitBy past (passes n) before q = before (n + q)
+waitBy past (sets t) before q = cond (isReset t) none (before q)
+waitBy past (changes f) before q = before q
+
+-- the word that is waited for after a past and q quiet bit times more: that of the last sound master frame that asked somebody else,
+-- while no frame and no reset followed it and the reply time that was chosen when it came has not passed
+unfoldable pub awaited : List Call → ℕ → Option ℕ
+awaited [] q = none
+awaited (c ∷ past) q = waitBy past (happening c) (awaited past) q
+
+-- ---- answers
+
+abbrev pub isWord : Option ℕ → ℕ → Bool
+isWord none w = false
+isWord (some v) w = eqb v w
+
+-- a slave frame of the trusted line is a sound answer to the master word w: it is judged while w is waited for
+unfoldable pub answers : List Call → Hearing → Hearing → ℕ → Bool
+answers past a b w =
+    let h = onTrusted past a b in
+    isSlave (h .kind) && isWord (awaited past 0) w && isSound (judgedSlave (codeOf w) h)
+
+-- an opening begins anew
+abbrev pub restarted : Change → List (List ℕ) → List (List ℕ)
+restarted keeps l = l
+restarted (opens x) l = []
+restarted closes l = l
+restarted (writes ws) l = l
+
+-- a sound answer to w is added
+abbrev pub answeredBy : List Call → ℕ → ℕ → Happening → List (List ℕ) → List (List ℕ)
+answeredBy past a w (hears x y) l = cond (answers past x y w) (wordsOf (onTrusted past x y) ∷ l) l
+answeredBy past a w (passes n) l = l
+answeredBy past a w (sets t) l = l
+answeredBy past a w (changes f) l = restarted (f a) l
+
+-- the words of the sound slave frames that answered the master word w since address a was opened, the newest first
+unfoldable pub answersSince : List Call → ℕ → ℕ → List (List ℕ)
+answersSince [] a w = []
+answersSince (c ∷ past) a w = answeredBy past a w (happening c) (answersSince past a w)
+
+-- ---- what the past says of an address
+
+-- what fills a port: the sound answers fill a sink, the host's writes a source
+abbrev pub fillings : List Call → ℕ → Opening → List (List ℕ)
+fillings past a o = cond (o .sink) (answersSince past a (o .word)) (writesSince past a)
+
+-- what an opened port shows, with these words and so many fills
+abbrev pub viewWith : Opening → Option (List ℕ) → ℕ → View
+viewWith o ws n = record { word = o .word; sink = o .sink; interrupt = o .interrupt; shows = ws; fills = n }
+
+-- it shows the last of the words that filled it, and its fills are their number modulo 65,536
+abbrev pub toldView : List Call → ℕ → Option Opening → Option View
+toldView past a none = none
+toldView past a (some o) = some (viewWith o (lastOf (fillings past a o)) (length (fillings past a o) % 65536))
+
+-- the words that are shown, and no words where none are
+abbrev pub shownWords : Option (List ℕ) → List ℕ
+shownWords none = []
+shownWords (some ws) = ws
+
+-- what an address shows after an event, if the sinks whose master word passes the test take these words
+abbrev pub takenIf : (ℕ → Bool) → List ℕ → Option View → Option View
+takenIf f ws none = none
+takenIf f ws (some v) = some (cond (v .sink && f (v .word)) (refilled ws v) v)
+
+-- ---- the counts, since the last reset
 
 -- a master frame is judged, and a slave frame while a word is waited for
 abbrev pub judgedAs : Kind → Option ℕ → Hearing → Option Judgement
@@ -282,16 +353,17 @@ addUnsound none n = n
 addUnsound (some Sound) n = n
 addUnsound (some (Unsound crc)) n = suc n
 
+-- a judged frame is added, and a setting that stops the count begins it anew
+abbrev pub countBy : (Setting → Bool) → (Option Judgement → ℕ → ℕ) → List Call → Happening → ℕ → ℕ
+countBy stop add past (hears a b) n = add (judgement past a b) n
+countBy stop add past (passes t) n = n
+countBy stop add past (sets t) n = cond (stop t) 0 n
+countBy stop add past (changes f) n = n
+
 -- how many frames of a past count, since the last setting that stops the count
 unfoldable pub countSince : (Setting → Bool) → (Option Judgement → ℕ → ℕ) → List Call → ℕ
 countSince stop add [] = 0
-countSince stop add (hear a b ∷ past) = add (judgement past a b) (countSince stop add past)
-countSince stop add (quiet n ∷ past) = countSince stop add past
-countSince stop add (openPort a p code sink i ∷ past) = countSince stop add past
-countSince stop add (closePort a ∷ past) = countSince stop add past
-countSince stop add (writePort a ws ∷ past) = countSince stop add past
-countSince stop add (readPort a ∷ past) = countSince stop add past
-countSince stop add (setting t ∷ past) = cond (stop t) 0 (countSince stop add past)
+countSince stop add (c ∷ past) = countBy stop add past (happening c) (countSince stop add past)
 
 -- judged frames since the last reset
 unfoldable pub framesJudged : List Call → ℕ

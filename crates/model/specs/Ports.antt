@@ -5,8 +5,6 @@ use mathlib.Core.Bool.{Bool, true, false, cond, not, _&&_, _||_}
 use mathlib.Core.List.{List}
 use mathlib.Core.Option.{Option, none, some}
 use lib.Dec.{eqb, leb}
-use Rattle.frames.specs.declared.Expected.{Expected}
-use Rattle.frames.specs.declared.Expected.the-variants.{Words as Expects, NoReply}
 use Rattle.frames.specs.Size.{expectedOf}
 use Rattle.model.specs.declared.Words.{Words}
 use Rattle.model.specs.declared.Flags.{Flags}
@@ -34,9 +32,9 @@ abbrev pub hasPorts : ℕ → Bool
 hasPorts code = leb code 4
 
 -- how many words a port of this F-code has
-abbrev pub wordsIn : Expected → ℕ
-wordsIn (Expects n) = n
-wordsIn NoReply = 0
+abbrev pub wordsIn : Option ℕ → ℕ
+wordsIn (some n) = n
+wordsIn none = 0
 
 unfoldable pub sizeOf : ℕ → ℕ
 sizeOf code = wordsIn (expectedOf code)
@@ -70,9 +68,9 @@ validPage m f = cond (f .vp) (m .page1) (m .page0)
 abbrev pub validWords : Areas → ℕ → List ℕ
 validWords m p = partOf (validPage m (flagsOf (portAt m p .flags))) p (sizeOf (codeOf (portAt m p .master)))
 
--- a port as its address shows it, status bits aside: its number, master word and side, its interrupt, the words that it shows, or
--- that there are none, and its fills
-pub record View : Type 0 where
+-- a port that stands open, status bits aside: its number, master word and side, its interrupt, the words that it shows, or that there
+-- are none, and its fills
+pub record Standing : Type 0 where
   pub port : ℕ
   pub word : ℕ
   pub sink : Bool
@@ -80,8 +78,8 @@ pub record View : Type 0 where
   pub shows : Option (List ℕ)
   pub fills : ℕ
 
-unfoldable pub viewOf : Areas → ℕ → View
-viewOf m p =
+unfoldable pub standingOf : Areas → ℕ → Standing
+standingOf m p =
     record {
       port = p;
       word = portAt m p .master;
@@ -91,14 +89,37 @@ viewOf m p =
       fills = portAt m p .fills;
     }
 
-abbrev pub seen : Areas → Sought → Option View
+abbrev pub seen : Areas → Sought → Option Standing
 seen m Nothing = none
 seen m Damaged = none
-seen m (Port p) = some (viewOf m p)
+seen m (Port p) = some (standingOf m p)
 
 -- what stands open at an address, if anything does
+unfoldable pub standing : Areas → ℕ → Option Standing
+standing m a = seen m (seek m a)
+
+-- what its address shows: all of it but the number
+pub record View : Type 0 where
+  pub word : ℕ
+  pub sink : Bool
+  pub interrupt : ℕ
+  pub shows : Option (List ℕ)
+  pub fills : ℕ
+
+abbrev pub viewOf : Standing → View
+viewOf v = record { word = v .word; sink = v .sink; interrupt = v .interrupt; shows = v .shows; fills = v .fills }
+
+abbrev pub viewed : Option Standing → Option View
+viewed none = none
+viewed (some v) = some (viewOf v)
+
 unfoldable pub view : Areas → ℕ → Option View
-view m a = seen m (seek m a)
+view m a = viewed (standing m a)
+
+-- with words that just filled it: it shows them, and has one fill more
+abbrev pub refilled : List ℕ → View → View
+refilled ws v =
+    record { word = v .word; sink = v .sink; interrupt = v .interrupt; shows = some ws; fills = (v .fills + 1) % 65536 }
 
 -- held: filled, but STO or TERR set
 abbrev pub isHeld : Faults → Bool

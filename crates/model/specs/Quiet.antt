@@ -11,8 +11,9 @@ use Rattle.model.specs.declared.Times.{Times}
 use Rattle.model.specs.declared.Lines.{Lines}
 use Rattle.model.specs.declared.Controller.{Controller}
 use Rattle.model.specs.Layout.{Areas}
-use Rattle.model.specs.Ports.{codeOf, View, Effect, untouched, mark, replyMissing, apply}
-use Rattle.model.specs.Lines.{arbitration, rule1, rule2, rule5}
+use Rattle.model.specs.Ports.{codeOf, Standing, Effect, untouched, mark, replyMissing, apply}
+use Rattle.model.specs.Lines.{exempt, rule1, rule2, rule5}
+use Rattle.model.specs.Parts.{withExchange, withTimes, withLines, withGroup0}
 use Rattle.model.specs.Event.{World, world, sinkFor, raiseAll, when}
 
 -- 1950 and 2130 bit times are 1.30 and 1.42 ms
@@ -65,14 +66,14 @@ isSome (some w) = true
 -- a reply timeout, the waiting code not 9, 13 or 14
 abbrev pub disturbsLate : Option ℕ → Bool
 disturbsLate none = false
-disturbsLate (some w) = not (arbitration (codeOf w))
+disturbsLate (some w) = not (exempt (codeOf w))
 
 -- rules 1, 2 and 5, in this order
 abbrev pub linesLater : Lines → Option ℕ → Bool → Lines
 linesLater l e timeout = rule5 (rule2 timeout (rule1 (disturbsLate e) l))
 
 -- a SINK port with the waiting word gets STO alone among its status bits
-abbrev pub missed : Option View → Effect
+abbrev pub missed : Option Standing → Effect
 missed none = untouched
 missed (some v) = mark (v .port) replyMissing
 
@@ -91,15 +92,10 @@ tickEffect s = effectLater (s .areas) (due s)
 unfoldable pub tickController : World → Controller
 tickController s =
     let c = s .controller in
-    record {
-      exchange = exchangeLater (c .exchange) (due s);
-      times = timesLater (c .times);
-      lines = linesLater (c .lines) (due s) (lineSilent (c .times));
-      counts = c .counts;
-      group0 = raiseAll (when (isSome (due s)) RTI ++ when (busSilent (c .times)) BTI) (c .group0);
-      group1 = c .group1;
-      device = c .device;
-    }
+    withExchange (exchangeLater (c .exchange) (due s))
+    (withTimes (timesLater (c .times))
+    (withLines (linesLater (c .lines) (due s) (lineSilent (c .times)))
+    (withGroup0 (raiseAll (when (isSome (due s)) RTI ++ when (busSilent (c .times)) BTI) (c .group0)) c)))
 
 unfoldable pub tick : World → World
 tick s = world (tickController s) (apply (tickEffect s) (s .areas))

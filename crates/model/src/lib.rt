@@ -1,9 +1,9 @@
 // The controller as definitions, and the three demands as theorems about them. This crate has no function.
 //
 // Here are the types that the calls take and answer. specs/ defines, from document 01's own words, what each call answers and what it
-// leaves of the controller and of the four lent areas; a run is a list of accepted calls. proofs/ has the demands as theorems over
-// runs: what is refused (Refused), what a port shows and what is replied and counted (Told, Demands), and that damage leaves no trace
-// (Damage). docs/READING.md says in which order to read them.
+// leaves of the controller and of the four lent areas; a run is a list of accepted calls. proofs/ has the demands as theorems: what is
+// refused (Refused), what holds in any memory (Anywhere, Empty), what a port shows and what is replied and counted in a run (Demands), and
+// that damage leaves no trace but what document 01 lists (MayDiffer, Settled). docs/READING.md says in which order to read them.
 use frames::Judgement;
 use interrupts::Group;
 

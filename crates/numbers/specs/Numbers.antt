@@ -1,4 +1,5 @@
 -- Document 01, "Numbers on either side": the cases marked P, as one list and one test that antt computes. Assumes nothing.
+use mathlib.Core.Option.{Option, none, some}
 use Prim.Native.Nat.{ℕ, _+_, _^_}
 use mathlib.Core.Bool.{Bool, true, false, _&&_}
 use mathlib.Core.List.{List, [], _∷_}
@@ -6,8 +7,6 @@ use lib.Dec.{T, eqb}
 use lib.Count.{ones}
 use Rattle.sequence.specs.Check.{push, pushes, rest, onesOf, checkOf}
 use Rattle.frames.specs.Size.{sizes, expectedOf}
-use Rattle.frames.specs.declared.Expected.{Expected}
-use Rattle.frames.specs.declared.Expected.the-variants.{Words, NoReply}
 use Rattle.interrupts.specs.declared.Group.{Group}
 use Rattle.interrupts.specs.Group.{group, bit, highest, vectorRead}
 use Rattle.interrupts.specs.Names.{used0}
@@ -24,9 +23,9 @@ abbrev pub read : Group → List ℕ → Bool
 read g [] = true
 read g (v ∷ vs) = eqb (vectorRead g .value) v && read (vectorRead g .group) vs
 
-abbrev pub isSize : Expected → ℕ → Bool
-isSize (Words m) n = eqb m n
-isSize NoReply n = false
+abbrev pub isSize : Option ℕ → ℕ → Bool
+isSize (some m) n = eqb m n
+isSize none n = false
 
 abbrev pub right : Case → Bool
 right (check ws byte) = eqb (checkOf ws) byte

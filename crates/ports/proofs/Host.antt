@@ -10,7 +10,7 @@ use Rattle.model.specs.declared.Answer.{Answer}
 use Rattle.model.specs.declared.Answer.the-variants.{Never, Good, Held, Refused}
 use Rattle.model.specs.Layout.{Areas, entry}
 use Rattle.model.specs.Ports.{validWords}
-use Rattle.model.specs.Calls.{Call, openPort, closePort, writePort, readPort, needed, refusal, step, outcomeOf, outcome, among}
+use Rattle.model.specs.Calls.{Call, openPort, closePort, writePort, readPort, outOfRange, refusal, step, outcomeOf, outcome, freshOver}
 use Rattle.model.specs.Calls.{portRefusal, portAreas, asked, partFor, fetched}
 use Rattle.model.proofs.Refused.{accepted}
 use Rattle.model.proofs.Accepted.{InRange, open-range}
@@ -18,7 +18,7 @@ use Rattle.areas.specs.Lent.{shown}
 use Rattle.ports.specs.Host.{out, hostCall, openRefusal, reached, writeRefusal}
 
 pub open-number : (m : Areas) (a p code : ℕ) (sink : Bool) (i : ℕ) → portRefusal (openPort a p code sink i) m ≡ openRefusal m a p code i
-unfolding portRefusal refusal needed openRefusal
+unfolding portRefusal refusal openRefusal
 open-number m a p code sink i = refl
 
 -- an opening that is accepted has its arguments in range
@@ -26,7 +26,7 @@ pub open-accepted : (m : Areas) (a p code i : ℕ) {n : ℕ} → n ≡ openRefus
 unfolding portRefusal
 open-accepted m a p code i {n} e z =
     let none = open-number m a p code true i ∙ sym e ∙ eqb-true n 0 z in
-    open-range a p code i (accepted (openPort a p code true i) (among m) none .range)
+    open-range a p code i (accepted (openPort a p code true i) (freshOver m) none outOfRange)
 
 -- the test of the port words is asked only where there is an entry
 excused : (none ill : Bool) (n : ℕ) → cond none 3 (cond (not none && ill) 6 n) ≡ cond none 3 (cond ill 6 n)
@@ -34,24 +34,24 @@ excused true ill n = refl
 excused false ill n = refl
 
 pub read-number : (m : Areas) (a : ℕ) → portRefusal (readPort a) m ≡ reached m a 0
-unfolding portRefusal refusal needed reached
+unfolding portRefusal refusal reached
 read-number m a = rw excused
 
 pub close-number : (m : Areas) (a : ℕ) → portRefusal (closePort a) m ≡ reached m a 0
-unfolding portRefusal refusal needed reached
+unfolding portRefusal refusal reached
 close-number m a = rw excused
 
 pub write-number : (m : Areas) (a : ℕ) (ws : List ℕ) → portRefusal (writePort a ws) m ≡ writeRefusal m a ws
-unfolding portRefusal refusal needed writeRefusal reached
+unfolding portRefusal refusal writeRefusal reached
 write-number m a ws = rw excused
 
 -- what a call leaves, by the number k that it is to answer and the number n that it answers
 module _ (c : Call) (m : Areas) {k n : ℕ} (number : portRefusal c m ≡ k) (e : n ≡ k) where
-  by-number : out (outcomeOf n c (among m) .world .areas) n ≡ hostCall c m
+  by-number : out (outcomeOf n c (freshOver m) .world .areas) n ≡ hostCall c m
   unfolding hostCall portAreas portRefusal outcome
-  by-number = ap (λ (x : ℕ). out (outcomeOf x c (among m) .world .areas) x) (e ∙ sym number)
+  by-number = ap (λ (x : ℕ). out (outcomeOf x c (freshOver m) .world .areas) x) (e ∙ sym number)
 
-  pub done : eqb n 0 ≡ true → out (step c (among m) .areas) n ≡ hostCall c m
+  pub done : eqb n 0 ≡ true → out (step c (freshOver m) .areas) n ≡ hostCall c m
   done z = rw z at by-number
 
   pub refused : eqb n 0 ≡ false → out m n ≡ hostCall c m

@@ -1,10 +1,13 @@
 // The host's calls on ports. Each is lent the four areas; `&mut` are those that it may change. The number of a refusal comes back, 0 where
 // the call was accepted; a refused call changes nothing.
 ghost use mathlib.Core.Path.{_≡_};
+ghost use mathlib.Core.Bool.{true};
+ghost use lib.ListN.{getD};
+ghost use Rattle.model.specs.Layout.{wordsAt, flagsOf};
 ghost use Prim.Native.Nat.{_≤_};
 ghost use Rattle.model.specs.Ports.{openWords};
-ghost use Rattle.model.specs.Calls.{openPort, closePort, writePort, asked, fetched};
-ghost use Rattle.areas.specs.Lent.{lent};
+ghost use Rattle.model.specs.Calls.{openPort, closePort, writePort, readPort, portRefusal, asked, refusalOf, fetched};
+ghost use Rattle.areas.specs.Lent.{lent, shown, validLent, Lies};
 ghost use Rattle.ports.specs.Host.{out, hostCall};
 use crate::refusal;
 use areas::layout;
@@ -113,6 +116,9 @@ pub fn write(
 // Asks for the state of the port at address a.
 pub fn ask(index: &[u16], ports: &[u16], page0: &[u16], page1: &[u16], a: u16) -> Answer
     ensures { λ r. ⌜ r ≡ asked (lent (index .entry) (ports .entry) (page0 .entry) (page1 .entry)) a ⌝ }
+    ensures number { λ r. ⌜
+        refusalOf r ≡ portRefusal (readPort a) (lent (index .entry) (ports .entry) (page0 .entry) (page1 .entry))
+        ⌝ }
 {
     let no = refusal::reach(index, ports, page0, page1, a, 0);
     let w = layout::get_port(ports, layout::get(index, a as usize));
@@ -129,6 +135,11 @@ pub fn fetch<'a>(
     a: u16,
 ) -> &'a [u16]
     ensures { λ r. ⌜ now r ≡ fetched (lent (index .entry) (ports .entry) (page0 .entry) (page1 .entry)) a ⌝ }
+    ensures place { λ r. ⌜
+        (shown (asked (lent (index .entry) (ports .entry) (page0 .entry) (page1 .entry)) a) ≡ true → Lies r
+        (validLent (page0 .entry) (page1 .entry) (flagsOf (wordsAt (now (ports .entry)) (getD (now (index .entry)) a 0) .flags)))
+        (getD (now (index .entry)) a 0))
+        ⌝ }
 {
     let show = port::shows(ask(index, ports, page0, page1, a));
     if show {

@@ -10,7 +10,7 @@ use lib.Dec.{lit<}
 use lib.Pow.{mod-pow-add}
 use lib.Bits.{bitXor, xor-self, xor-zero-r, xor-shifted}
 use Rattle.sequence.specs.Check.{G, reduce, push, pushes, rest}
-use Rattle.sequence.specs.Remainder.{Multiple, none, shift, plus, Remainder, Words, number}
+use Rattle.sequence.specs.Remainder.{Multiple, none, shift, plus, Remainder, Words, joined}
 use Rattle.sequence.proofs.Division.{reduce-low, reduce-high}
 use Rattle.sequence.proofs.Linear.{low-or-high, push-lt}
 use Rattle.sequence.proofs.Xor.{xor-assoc, xor4, xor-shl}
@@ -57,12 +57,12 @@ more (suc k) p r w h =
     ∙ ap₂ (λ (x y : ℕ). x + y) (mul-assoc p 2 (2 ^ k) ∙ ap (λ (n : ℕ). p * n) (mul-comm 2 (2 ^ k) ∙ sym (pow-suc 2 k))) (sym d) in
     subst (λ (n : ℕ). Remainder (n * 128) (pushes k (push r b) w)) e (more k (p * 2 + b) (push r b) w (pushed p r b bit h))
 
-words : (ws : List ℕ) (p r : ℕ) → Words ws → Remainder (p * 128) r → Remainder (number p ws * 128) (rest r ws)
-unfolding rest number Words
+words : (ws : List ℕ) (p r : ℕ) → Words ws → Remainder (p * 128) r → Remainder (joined p ws * 128) (rest r ws)
+unfolding rest joined Words
 words [] p r f h = h
 words (w ∷ ws) p r f h =
     words ws (p * 2 ^ 16 + w) (pushes 16 r w) (f .1)
     (subst (λ (n : ℕ). Remainder ((p * 2 ^ 16 + n) * 128) (pushes 16 r w)) (mod-eq-of-lt (f .0)) (more 16 p r w h))
 
-pub is-remainder : (ws : List ℕ) → Words ws → Remainder (number 0 ws * 2 ^ 7) (rest 0 ws)
+pub is-remainder : (ws : List ℕ) → Words ws → Remainder (joined 0 ws * 2 ^ 7) (rest 0 ws)
 is-remainder ws f = words ws 0 0 f (record { small = lit< tt; divides = none })

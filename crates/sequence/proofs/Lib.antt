@@ -6,3 +6,4 @@ pub mod Cat
 pub mod Divides
 pub mod Unique
 pub mod Blocks
+pub mod OneCheck

@@ -3,6 +3,7 @@
 -- times 2. Specs/Remainder.antt says what a remainder is without a division. Assumes nothing.
 use Prim.Native.Nat.{ℕ, zero, suc, _+_, _-_, _*_, _/_, _%_, _^_}
 use mathlib.Core.Bool.{Bool, cond, _&&_}
+use mathlib.Core.Option.{Option, none, some}
 use mathlib.Core.List.{List, [], _∷_}
 use lib.Dec.{ltb, leb}
 use lib.ListN.{length}
@@ -54,11 +55,11 @@ checkOf ws = 255 - (remainder ws * 2 + parity ws)
 abbrev pub isBlock : List ℕ → Bool
 isBlock ws = ltb 0 (length ws) && leb (length ws) 4
 
--- the answer to a block, and to what is none
-abbrev pub blockCheck : List ℕ → BlockCheck
-blockCheck ws = cond (isBlock ws) (Byte (checkOf ws)) Range
+-- document 01's number and value for each answer: no refusal and the byte, or 2 RANGE
+abbrev pub blockSays : BlockCheck → ℕ × Option ℕ
+blockSays (Byte b) = (0, some b)
+blockSays Range = (2, none)
 
--- the number of document 01 that an answer gives: 0 where it is a byte, 2 (RANGE) where the block has no words or more than four
-abbrev pub refusalOf : BlockCheck → ℕ
-refusalOf (Byte b) = 0
-refusalOf Range = 2
+-- what is said of a block, and of what is none
+abbrev pub blockCheck : List ℕ → ℕ × Option ℕ
+blockCheck ws = cond (isBlock ws) (0, some (checkOf ws)) (2, none)

@@ -18,9 +18,9 @@ pub record Remainder (p r : ℕ) : Type 0 where
   pub divides : Multiple (bitXor p r)
 
 -- the words' bits as one number after the bits of a, the first word's highest
-unfoldable pub number : ℕ → List ℕ → ℕ
-number a [] = a
-number a (w ∷ ws) = number (a * 2 ^ 16 + w) ws
+unfoldable pub joined : ℕ → List ℕ → ℕ
+joined a [] = a
+joined a (w ∷ ws) = joined (a * 2 ^ 16 + w) ws
 
 -- each word has 16 bits
 unfoldable pub Words : List ℕ → Type 0

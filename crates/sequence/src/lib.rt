@@ -6,7 +6,7 @@
 // proofs/Divides.antt and proofs/Unique.antt that the computed one is it.
 ghost use mathlib.Core.Path.{_≡_};
 ghost use Prim.Native.Nat.{min, _<_};
-ghost use Rattle.sequence.specs.Check.{push, pushes, checkOf, blockCheck};
+ghost use Rattle.sequence.specs.Check.{push, pushes, checkOf, blockSays, blockCheck};
 ghost use Rattle.sequence.specs.Frame.{blocks, byteAt, frameChecks};
 
 // The coefficients of G(x) = x^7 + x^6 + x^5 + x^2 + 1.
@@ -72,7 +72,7 @@ fn check(words: &[u16]) -> u8
 
 // The check byte of a block.
 pub fn block_check(words: &[u16]) -> BlockCheck
-    ensures { λ r. ⌜ r ≡ blockCheck (now (words .entry)) ⌝ }
+    ensures { λ r. ⌜ blockSays r ≡ blockCheck (now (words .entry)) ⌝ }
 {
     let n = words.len();
     if n == 0 {

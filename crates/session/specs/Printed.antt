@@ -3,6 +3,7 @@ use Prim.Native.Nat.{ℕ}
 use mathlib.Core.Bool.{cond}
 use mathlib.Core.List.{List, [], _∷_, _++_}
 use lib.Dec.{eqb}
+use Rattle.digits.specs.Marks.{newline}
 use Rattle.model.specs.Calls.{start}
 use Rattle.model.specs.Layout.{Areas}
 use Rattle.meaning.specs.declared.Setup.{Setup}
@@ -17,9 +18,10 @@ abbrev pub onFirst : ℕ → List (List ℕ) → List (List ℕ)
 onFirst c [] = (c ∷ []) ∷ []
 onFirst c (l ∷ ls) = (c ∷ l) ∷ ls
 
-unfoldable pub lines : List ℕ → List (List ℕ)
-lines [] = []
-lines (c ∷ cs) = cond (eqb c 10) ([] ∷ lines cs) (onFirst c (lines cs))
+-- the lines without their newlines
+unfoldable pub textLines : List ℕ → List (List ℕ)
+textLines [] = []
+textLines (c ∷ cs) = cond (eqb c newline) ([] ∷ textLines cs) (onFirst c (textLines cs))
 
 -- ---- what is printed
 
@@ -36,4 +38,4 @@ printedFrom (l ∷ ls) s =
 
 -- from a fresh controller and cleared areas
 unfoldable pub printed : List ℕ → List ℕ
-printed t = printedFrom (lines t) (state freshSetup start)
+printed t = printedFrom (textLines t) (state freshSetup start)

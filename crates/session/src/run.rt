@@ -2,11 +2,12 @@
 ghost use mathlib.Core.Path.{_≡_};
 ghost use Prim.Native.Nat.{_<_, _≤_};
 ghost use lib.ListN.{length, drop};
-ghost use Rattle.digits.specs.Cut.{before, after};
+ghost use Rattle.digits.specs.Marks.{newline};
+ghost use Rattle.digits.specs.Cut.{textBefore, textAfter};
 ghost use Rattle.digits.specs.Write.{paper, onto, pasted};
 ghost use Rattle.areas.specs.Lent.{lent};
-ghost use Rattle.meaning.specs.Meaning.{stateOf, begun};
-ghost use Rattle.session.specs.Printed.{lines, endText, printedFrom, printed};
+ghost use Rattle.meaning.specs.Meaning.{stateAfter, begun};
+ghost use Rattle.session.specs.Printed.{textLines, endText, printedFrom, printed};
 use digits::cut;
 use meaning::Stepped;
 use meaning::calls;
@@ -38,7 +39,7 @@ fn finish<'a>(
 // The line that begins at i.
 fn line_at<'a>(input: &'a [u8], i: usize) -> &'a [u8]
     requires { ⌜ i ≤ length (now input) ⌝ }
-    ensures { λ r. ⌜ now r ≡ before 10 (drop i (now (input .entry))) ⌝ }
+    ensures { λ r. ⌜ now r ≡ textBefore newline (drop i (now (input .entry))) ⌝ }
 {
     cut::before(&input[i..], b'\n')
 }
@@ -47,7 +48,7 @@ fn line_at<'a>(input: &'a [u8], i: usize) -> &'a [u8]
 fn next_line(input: &[u8], i: usize) -> usize
     requires { ⌜ i < length (now input) ⌝ }
     ensures { λ r. ⌜
-        (drop r (now (input .entry)) ≡ after 10 (drop i (now (input .entry)))) × (i < r) × (r ≤ length (now (input .entry)))
+        (drop r (now (input .entry)) ≡ textAfter newline (drop i (now (input .entry)))) × (i < r) × (r ≤ length (now (input .entry)))
         ⌝ }
 {
     let n = cut::find(&input[i..], b'\n');
@@ -70,8 +71,8 @@ fn lines(
     ensures { λ r. ⌜
         paper (now (out .exit)) r ≡
         onto (paper (now (out .entry)) 0)
-        (printedFrom (lines (now (input .entry)))
-        (stateOf (lent (index .entry) (ports .entry) (page0 .entry) (page1 .entry)) begun))
+        (printedFrom (textLines (now (input .entry)))
+        (stateAfter (lent (index .entry) (ports .entry) (page0 .entry) (page1 .entry)) begun))
         ⌝ }
 {
     let mut s = calls::begin();

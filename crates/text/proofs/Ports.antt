@@ -6,6 +6,7 @@ use native.Mathlib.Numerals.{add-one}
 use Rattle.model.specs.Layout.{Areas}
 use Rattle.text.specs.Report.{openText, reportBelow}
 
+-- the ports below the next address are those below this one, and its own
 pub report-next : (m : Areas) (a : ℕ) → reportBelow m (a + 1) ≡ reportBelow m a ++ openText m a
 unfolding reportBelow
 report-next m a = rw (add-one a)

@@ -7,7 +7,8 @@ use lib.ListN.{length, take, replicate}
 use lib.Seq.{sets}
 use Rattle.digits.specs.declared.Number.{Number}
 use Rattle.digits.specs.declared.Number.the-variants.{Value, Malformed}
-use Rattle.digits.specs.Cut.{before, after, has, same}
+use Rattle.digits.specs.Marks.{comma, semicolon, equals}
+use Rattle.digits.specs.Cut.{textBefore, textAfter, has, same}
 use Rattle.digits.specs.Read.{cut, Numbers, numbersIn, numberIn, largest}
 use Rattle.frames.specs.declared.Kind.{Kind}
 use Rattle.frames.specs.declared.Kind.the-variants.{Master as MasterFrame, Slave as SlaveFrame}
@@ -18,6 +19,7 @@ use Rattle.text.specs.declared.Key.{Key}
 use Rattle.text.specs.declared.Key.the-variants.{Addr, Fcode, Dir, Index, Master, Slave, Quiet, Write, Unknown}
 use Rattle.text.specs.Words.{wAddr, wFcode, wDir, wIndex, wMaster, wSlave, wQuiet, wWrite, wSink, wSource}
 
+-- what a line says
 pub data Line : Type 0 where
   -- the setup lines of a port
   addr fcode index : (n : ℕ) → Line
@@ -54,20 +56,22 @@ dirOf v = cond (same v wSink) (dir true) (cond (same v wSource) (dir false) malf
 abbrev pub below : ℕ → Numbers → Bool
 below limit n = n .good && leb (largest 0 (n .values)) limit
 
--- two lists with the byte b between; a master frame has one number in each
-abbrev pub firstOf : ℕ → List ℕ → Numbers
-firstOf b v = numbersIn (before b v)
+-- the first of two lists with the byte b between
+abbrev pub firstList : ℕ → List ℕ → Numbers
+firstList b v = numbersIn (textBefore b v)
 
-abbrev pub secondOf : ℕ → List ℕ → Numbers
-secondOf b v = numbersIn (after b v)
+-- the second of them
+abbrev pub secondList : ℕ → List ℕ → Numbers
+secondList b v = numbersIn (textAfter b v)
 
+-- one number in each, as in a master frame
 abbrev pub onePair : Numbers → Numbers → Bool
 onePair x y = eqb (length (x .values)) 1 && eqb (length (y .values)) 1
 
 -- words and check bytes; a number above its word or byte is malformed
-unfoldable pub isFrame : Bool → ℕ → List ℕ → Bool
-isFrame one b v =
-    has b v && below 65535 (firstOf b v) && below 255 (secondOf b v) && (not one || onePair (firstOf b v) (secondOf b v))
+unfoldable pub isFrameText : Bool → ℕ → List ℕ → Bool
+isFrameText one b v =
+    has b v && below 65535 (firstList b v) && below 255 (secondList b v) && (not one || onePair (firstList b v) (secondList b v))
 
 -- a frame without a quality mark
 abbrev pub unmarked : Kind → List ℕ → ℕ → List ℕ → ℕ → Hearing
@@ -82,9 +86,10 @@ hearingOf kind ws cs = unmarked kind (padded ws) (length ws) (sets (replicate 4 
 abbrev pub readAs : Bool → Hearing → Frame
 readAs good h = record { good = good; hearing = h }
 
+-- the frame of two lists, or the mark that they describe none
 unfoldable pub frameRead : Kind → Bool → ℕ → List ℕ → Frame
 frameRead kind one b v =
-    cond (isFrame one b v) (readAs true (hearingOf kind (firstOf b v .values) (secondOf b v .values))) (readAs false (hearingOf kind [] []))
+    cond (isFrameText one b v) (readAs true (hearingOf kind (firstList b v .values) (secondList b v .values))) (readAs false (hearingOf kind [] []))
 
 -- the line of a frame that was read
 abbrev pub framed : Frame → Line
@@ -94,26 +99,29 @@ framed f = cond (f .good) (frame (f .hearing)) malformed
 abbrev pub kept : List ℕ → List ℕ
 kept ws = take 17 ws
 
--- an address and words; an address above 65,535 is out of range as the largest word is
+-- an address and words; an address above its word is malformed
 abbrev pub written : Number → List ℕ → Line
-written a ws = numbered (λ (n : ℕ). write (cut 65535 n) ws) a
+written a ws = numbered (λ (n : ℕ). cond (leb n 65535) (write n ws) malformed) a
 
 -- an address, `;` and words
 unfoldable pub writeOf : List ℕ → Line
-writeOf v = cond (has 59 v && below 65535 (secondOf 59 v)) (written (numberIn (before 59 v)) (kept (secondOf 59 v .values))) malformed
+writeOf v =
+    cond (has semicolon v && below 65535 (secondList semicolon v))
+    (written (numberIn (textBefore semicolon v)) (kept (secondList semicolon v .values))) malformed
 
--- `master=WORD,CHECK`, `slave=WORDS;CHECKS` and `write=ADDR;WORDS`. Calls take words, so that of addresses, F-codes and port numbers above
--- 65,535 the largest word is taken: it is out of range as they are
+-- `master=WORD,CHECK`, `slave=WORDS;CHECKS` and `write=ADDR;WORDS`. Opening takes words, so that of the addresses, F-codes and port numbers
+-- above 65,535 in setup lines the largest word is taken: it is out of range as they are
 unfoldable pub lineAs : Key → List ℕ → Line
 lineAs Addr v = numbered (λ (n : ℕ). addr (cut 65535 n)) (numberIn v)
 lineAs Fcode v = numbered (λ (n : ℕ). fcode (cut 65535 n)) (numberIn v)
 lineAs Dir v = dirOf v
 lineAs Index v = numbered (λ (n : ℕ). index (cut 65535 n)) (numberIn v)
-lineAs Master v = framed (frameRead MasterFrame true 44 v)
-lineAs Slave v = framed (frameRead SlaveFrame false 59 v)
+lineAs Master v = framed (frameRead MasterFrame true comma v)
+lineAs Slave v = framed (frameRead SlaveFrame false semicolon v)
 lineAs Quiet v = numbered quiet (numberIn v)
 lineAs Write v = writeOf v
 lineAs Unknown v = malformed
 
+-- a line of the input: its key, `=` and its value
 unfoldable pub lineOf : List ℕ → Line
-lineOf t = lineAs (keyOf (before 61 t)) (after 61 t)
+lineOf t = lineAs (keyOf (textBefore equals t)) (textAfter equals t)

@@ -5,6 +5,7 @@ use mathlib.Core.Bool.{Bool, cond}
 use mathlib.Core.List.{List, [], _∷_, _++_}
 use lib.Dec.{eqb}
 use lib.ListN.{take}
+use Rattle.digits.specs.Marks.{newline, semicolon, equals}
 use Rattle.digits.specs.Write.{decimal, commas}
 use Rattle.frames.specs.declared.Kind.{Kind}
 use Rattle.frames.specs.declared.Kind.the-variants.{Silence, Noise, Master, Slave}
@@ -20,11 +21,11 @@ use Rattle.text.specs.Words.{wSink, wSource, wNever, wGood, wHeld, wNone
 
 -- `key=`, before a value
 abbrev pub keyText : List ℕ → List ℕ
-keyText key = key ++ (61 ∷ [])
+keyText key = key ++ (equals ∷ [])
 
 -- a line `key=value`
 unfoldable pub lineText : List ℕ → List ℕ → List ℕ
-lineText key value = keyText key ++ value ++ (10 ∷ [])
+lineText key value = keyText key ++ value ++ (newline ∷ [])
 
 -- `dir` is sink or source
 abbrev pub dirText : Bool → List ℕ
@@ -61,6 +62,7 @@ unfoldable pub reportBelow : Areas → ℕ → List ℕ
 reportBelow m zero = []
 reportBelow m (suc a) = reportBelow m a ++ openText m a
 
+-- all open ports: addresses go up to 4,095
 unfoldable pub report : Areas → List ℕ
 report m = reportBelow m 4096
 
@@ -73,7 +75,8 @@ abbrev pub spokenText : Kind → Hearing → List ℕ
 spokenText Silence h = []
 spokenText Noise h = []
 spokenText Master h = []
-spokenText Slave h = keyText wReply ++ commas (wordsOf h) ++ (59 ∷ []) ++ commas (take (h .ends) (h .checks)) ++ (10 ∷ [])
+spokenText Slave h = keyText wReply ++ commas (wordsOf h) ++ (semicolon ∷ []) ++ commas (take (h .ends) (h .checks)) ++ (newline ∷ [])
 
+-- what is said of an answer: of a slave frame its line, of anything else nothing
 unfoldable pub replyText : Hearing → List ℕ
 replyText h = spokenText (h .kind) h

@@ -3,6 +3,7 @@ ghost use mathlib.Core.Path.{_≡_};
 ghost use mathlib.Core.Bool.{true, false, not, _&&_, _||_, cond};
 ghost use mathlib.Core.List.{map};
 ghost use lib.Dec.{eqb, leb};
+ghost use Rattle.digits.specs.Marks.{comma, semicolon};
 ghost use Rattle.digits.specs.Cut.{same};
 ghost use Rattle.digits.specs.Read.{cut};
 ghost use Rattle.frames.specs.declared.Kind.the-variants.{Master as MasterFrame, Slave as SlaveFrame};
@@ -114,14 +115,14 @@ fn frame(kind: Kind, one: bool, b: u8, v: &[u8]) -> Frame
 
 // `WORD,CHECK`.
 pub fn master(v: &[u8]) -> Frame
-    ensures { λ r. ⌜ r ≡ frameRead MasterFrame true 44 (now (v .entry)) ⌝ }
+    ensures { λ r. ⌜ r ≡ frameRead MasterFrame true comma (now (v .entry)) ⌝ }
 {
     frame(Kind::Master, true, b',', v)
 }
 
 // `WORDS;CHECKS`.
 pub fn slave(v: &[u8]) -> Frame
-    ensures { λ r. ⌜ r ≡ frameRead SlaveFrame false 59 (now (v .entry)) ⌝ }
+    ensures { λ r. ⌜ r ≡ frameRead SlaveFrame false semicolon (now (v .entry)) ⌝ }
 {
     frame(Kind::Slave, false, b';', v)
 }

@@ -22,7 +22,7 @@ use Rattle.model.specs.Quiet.{busTimeout, lineTimeout, times, sinceLater, expir
 use Rattle.model.specs.Quiet.{tickEffect, tickController, tick, ticks}
 use Rattle.timing.specs.Quiet.{sinceAfter}
 use Rattle.timing.specs.Jump.{beforeReply, beforeBus, beforeLine, beforeAny, free, later, passed, jumped}
-use Rattle.timing.specs.Settled.{settled, rolled}
+use Rattle.timing.specs.Resting.{resting, rolled}
 use Rattle.timing.proofs.BitTime.{one-later, ticks-suc}
 use Rattle.timing.proofs.Roll.{roll}
 
@@ -119,7 +119,7 @@ jump (suc n) s h = ticks-suc n s ∙ ap tick (jump n s (omega arith)) ∙ still 
 -- No jump leaves more bit times than there were.
 pub left-at-most : (n : ℕ) (c : Controller) → jumped n c .left ≤ n
 unfolding jumped
-left-at-most n c = go (settled c)
+left-at-most n c = go (resting c)
   where
     go : (b : Bool) → cond b (passed 0 (rolled n c)) (passed (n - min n (free c)) (later (min n (free c)) c)) .left ≤ n
     go true = omega arith
@@ -129,9 +129,9 @@ left-at-most n c = go (settled c)
 pub jump-on : (n : ℕ) (s : World)
     → ticks n s ≡ ticks (jumped n (s .controller) .left) (world (jumped n (s .controller) .controller) (s .areas))
 unfolding jumped ticks
-jump-on n s = go (settled (s .controller)) refl
+jump-on n s = go (resting (s .controller)) refl
   where
-    go : (b : Bool) → settled (s .controller) ≡ b
+    go : (b : Bool) → resting (s .controller) ≡ b
         → ticks n s ≡ ticks (jumped n (s .controller) .left) (world (jumped n (s .controller) .controller) (s .areas))
     go true e = rw e (roll n s e)
     go false e =

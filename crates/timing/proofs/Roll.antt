@@ -2,7 +2,7 @@
 -- other, which brings a line timeout or only later times. Assumes nothing.
 use Prim.Native.Nat.{ℕ, zero, suc, _+_, _/_, _%_, _≤_, _<_}
 use mathlib.Core.Path.{_≡_, refl, sym, _∙_, ap}
-use mathlib.Core.Bool.{Bool, true, false, cond, not, _&&_, _||_, true≢false, false≢true, and-eq-true-iff, and-false, or-false, Bool·not-not}
+use mathlib.Core.Bool.{Bool, true, false, cond, not, _&&_, _||_, true≢false, false≢true, and-eq-true-iff, and-false, Bool·not-not}
 use mathlib.Core.Option.{none, some}
 use native.Mathlib.Omega.{arith}
 use lib.Dec.{eqb, leb}
@@ -18,18 +18,18 @@ use Rattle.model.specs.Lines.{lines, rule1, rule2, rule5}
 use Rattle.model.specs.Event.{World, world}
 use Rattle.model.specs.Quiet.{busTimeout, lineTimeout, sinceLater, expired, lineSilent, isSome, linesLater, tickEffect, tickController}
 use Rattle.model.specs.Quiet.{tick, ticks}
-use Rattle.timing.specs.Settled.{settled, counted, timesRolled, unpaired, switches, rolled}
+use Rattle.timing.specs.Resting.{resting, lineCount, timesRolled, unpaired, switches, rolled}
 use Rattle.timing.proofs.BitTime.{ticks-suc}
 
--- what `settled` tests
-record Settled (c : Controller) : Type 0 where
+-- what `resting` tests
+record Resting (c : Controller) : Type 0 where
   past : busTimeout ≤ c .times .since
   undue : isSome (expired (c .exchange) (c .times)) ≡ false
   short : c .times .line < lineTimeout
   fixed : (c .lines .rld || c .lines .slm) ≡ true
 
-tests : (c : Controller) → settled c ≡ true → Settled c
-unfolding settled
+tests : (c : Controller) → resting c ≡ true → Resting c
+unfolding resting
 tests c h =
     let four = and-eq-true-iff _ _ .0 h in
     let three = and-eq-true-iff _ _ .0 (four .0) in
@@ -48,8 +48,14 @@ switch l b t h = go (l .rld) (l .slm) b t (l .laa) (l .ls) h
   where
     go : (r m b t a s : Bool) → (r || m) ≡ true
         → rule5 (rule2 t (rule1 false (rule2 b (lines a r s m)))) ≡ rule2 (cond t (not b) b) (lines a r s m)
-    go true true b t a s h = rw (and-false b, and-false t, and-false (cond t (not b) b), and-false s)
-    go false true b t a s h = rw (and-false b, and-false t, and-false (cond t (not b) b), and-false (s && true))
+    go true true true true a s h = rw (and-false s)
+    go true true true false a s h = rw (and-false s)
+    go true true false true a s h = rw (and-false s)
+    go true true false false a s h = rw (and-false s)
+    go false true true true a s h = rw (and-false (s && true))
+    go false true true false a s h = rw (and-false (s && true))
+    go false true false true a s h = rw (and-false (s && true))
+    go false true false false a s h = rw (and-false (s && true))
     go true false true true a s h = rw (and-false s, Bool·not-not a)
     go true false true false a s h = rw (and-false s)
     go true false false true a s h = rw (and-false s)
@@ -75,27 +81,27 @@ module _ (n : ℕ) (t : Times) where
       go false h = refl
   not-due Done h = refl
 
-  count-on : cond (lineSilent (timesRolled n t)) 0 (counted n t % lineTimeout + 1) ≡ counted (suc n) t % lineTimeout
+  count-on : cond (lineSilent (timesRolled n t)) 0 (lineCount n t % lineTimeout + 1) ≡ lineCount (suc n) t % lineTimeout
   count-on = go (lineSilent (timesRolled n t)) refl
     where
-      go : (b : Bool) → lineSilent (timesRolled n t) ≡ b → cond b 0 (counted n t % lineTimeout + 1) ≡ counted (suc n) t % lineTimeout
-      go true e = omega (arith, leb-true lineTimeout (counted n t % lineTimeout + 1) e)
-      go false e = omega (arith, leb-false lineTimeout (counted n t % lineTimeout + 1) e)
+      go : (b : Bool) → lineSilent (timesRolled n t) ≡ b → cond b 0 (lineCount n t % lineTimeout + 1) ≡ lineCount (suc n) t % lineTimeout
+      go true e = omega (arith, leb-true lineTimeout (lineCount n t % lineTimeout + 1) e)
+      go false e = omega (arith, leb-false lineTimeout (lineCount n t % lineTimeout + 1) e)
 
   switches-on : cond (lineSilent (timesRolled n t)) (not (switches n t)) (switches n t) ≡ switches (suc n) t
   switches-on = go (lineSilent (timesRolled n t)) refl
     where
       go : (b : Bool) → lineSilent (timesRolled n t) ≡ b → cond b (not (switches n t)) (switches n t) ≡ switches (suc n) t
       go true e =
-          let h = leb-true lineTimeout (counted n t % lineTimeout + 1) e in
-          let more : counted (suc n) t / lineTimeout ≡ suc (counted n t / lineTimeout) = omega arith in
-          rw more (odd-next (counted n t / lineTimeout))
+          let h = leb-true lineTimeout (lineCount n t % lineTimeout + 1) e in
+          let more : lineCount (suc n) t / lineTimeout ≡ suc (lineCount n t / lineTimeout) = omega arith in
+          rw more (odd-next (lineCount n t / lineTimeout))
       go false e =
-          let h = leb-false lineTimeout (counted n t % lineTimeout + 1) e in
-          let same : counted (suc n) t / lineTimeout ≡ counted n t / lineTimeout = omega arith in
+          let h = leb-false lineTimeout (lineCount n t % lineTimeout + 1) e in
+          let same : lineCount (suc n) t / lineTimeout ≡ lineCount n t / lineTimeout = omega arith in
           rw same
 
-one-more : (n : ℕ) (c : Controller) (m : Areas) → Settled c → tick (world (rolled n c) m) ≡ world (rolled (suc n) c) m
+one-more : (n : ℕ) (c : Controller) (m : Areas) → Resting c → tick (world (rolled n c) m) ≡ world (rolled (suc n) c) m
 unfolding tick tickController tickEffect apply rolled
 one-more n c m h =
     let t = c .times in
@@ -108,16 +114,16 @@ one-more n c m h =
     )
 
 -- no bit time changes nothing
-none-passed : (c : Controller) → Settled c → rolled 0 c ≡ c
+none-passed : (c : Controller) → Resting c → rolled 0 c ≡ c
 unfolding rolled rule2
 none-passed c h =
     let t = c .times in
-    let count : counted 0 t % lineTimeout ≡ t .line = omega (arith, h .short) in
-    let timeouts : counted 0 t / lineTimeout ≡ 0 = omega (arith, h .short) in
-    rw (count, timeouts, or-false)
+    let count : lineCount 0 t % lineTimeout ≡ t .line = omega (arith, h .short) in
+    let timeouts : lineCount 0 t / lineTimeout ≡ 0 = omega (arith, h .short) in
+    rw (count, timeouts)
 
 -- n bit times where nothing but line timeouts is to come, passed at once.
-pub roll : (n : ℕ) (s : World) → settled (s .controller) ≡ true → ticks n s ≡ world (rolled n (s .controller)) (s .areas)
+pub roll : (n : ℕ) (s : World) → resting (s .controller) ≡ true → ticks n s ≡ world (rolled n (s .controller)) (s .areas)
 unfolding ticks
 roll zero s h = ap (λ (c : Controller). world c (s .areas)) (sym (none-passed (s .controller) (tests (s .controller) h)))
 roll (suc n) s h = ticks-suc n s ∙ ap tick (roll n s h) ∙ one-more n (s .controller) (s .areas) (tests (s .controller) h)

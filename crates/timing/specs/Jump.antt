@@ -6,12 +6,12 @@ use lib.Dec.{ltb}
 use Rattle.model.specs.declared.Exchange.{Exchange}
 use Rattle.model.specs.declared.Times.{Times}
 use Rattle.model.specs.declared.Controller.{Controller}
-use Rattle.model.specs.Host.{controller}
+use Rattle.model.specs.Parts.{withTimes}
 use Rattle.model.specs.Lines.{acts5}
 use Rattle.model.specs.Quiet.{busTimeout, lineTimeout, times, isSome}
 use Rattle.timing.specs.declared.Passed.{Passed}
 use Rattle.timing.specs.Quiet.{sinceAfter, dueIn}
-use Rattle.timing.specs.Settled.{settled, rolled}
+use Rattle.timing.specs.Resting.{resting, rolled}
 
 -- before the reply time is reached; where no word is due within the line timeout, that comes first
 abbrev pub beforeReply : Exchange → Times → ℕ
@@ -36,8 +36,7 @@ free c = cond (acts5 (c .lines)) 0 (beforeAny (c .exchange) (c .times))
 -- k bit times later, of which none brings anything
 unfoldable pub later : ℕ → Controller → Controller
 later k c =
-    controller (c .exchange) (times (sinceAfter k (c .times .since)) (c .times .line + k) (c .times .chosen) (c .times .adopted)) (c .lines)
-    (c .counts) (c .group0) (c .group1) (c .device)
+    withTimes (times (sinceAfter k (c .times .since)) (c .times .line + k) (c .times .chosen) (c .times .adopted)) c
 
 -- how many bit times are left, and the controller after the others
 abbrev pub passed : ℕ → Controller → Passed
@@ -45,4 +44,4 @@ passed left c = record { left = left; controller = c }
 
 -- of n bit times all at once where nothing but line timeouts is to come, else as many as surely bring nothing; and how many are left
 unfoldable pub jumped : ℕ → Controller → Passed
-jumped n c = let k = min n (free c) in cond (settled c) (passed 0 (rolled n c)) (passed (n - k) (later k c))
+jumped n c = let k = min n (free c) in cond (resting c) (passed 0 (rolled n c)) (passed (n - k) (later k c))

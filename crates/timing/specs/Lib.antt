@@ -1,3 +1,3 @@
 pub mod Quiet
-pub mod Settled
+pub mod Resting
 pub mod Jump

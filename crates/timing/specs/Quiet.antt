@@ -10,7 +10,7 @@ use Rattle.model.specs.declared.Exchange.the-variants.{Idle, Waiting, Done}
 use Rattle.model.specs.declared.Times.{Times}
 use Rattle.model.specs.declared.Controller.{Controller}
 use Rattle.model.specs.Event.{raiseAll, when}
-use Rattle.model.specs.Host.{controller}
+use Rattle.model.specs.Parts.{withExchange, withTimes, withLines, withGroup0}
 use Rattle.model.specs.Quiet.{busTimeout, expired, busSilent, lineSilent, timesLater, exchangeLater, isSome, linesLater}
 use Rattle.timing.specs.declared.Due.{Due}
 use Rattle.timing.specs.declared.Due.the-variants.{No, Word}
@@ -24,8 +24,10 @@ dueWord (Word w) = some w
 unfoldable pub tickOf : Controller → Controller
 tickOf c =
     let e = expired (c .exchange) (c .times) in
-    controller (exchangeLater (c .exchange) e) (timesLater (c .times)) (linesLater (c .lines) e (lineSilent (c .times))) (c .counts)
-    (raiseAll (when (busSilent (c .times)) BTI) (raiseAll (when (isSome e) RTI) (c .group0))) (c .group1) (c .device)
+    withExchange (exchangeLater (c .exchange) e)
+    (withTimes (timesLater (c .times))
+    (withLines (linesLater (c .lines) e (lineSilent (c .times)))
+    (withGroup0 (raiseAll (when (busSilent (c .times)) BTI) (raiseAll (when (isSome e) RTI) (c .group0))) c)))
 
 -- the time since the last sound master frame, n bit times later: it stops at the bus timeout
 abbrev pub sinceAfter : ℕ → ℕ → ℕ

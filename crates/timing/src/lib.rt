@@ -1,5 +1,5 @@
 // What quiet time does to the controller (document 01, "Quiet time"): one bit time by itself (`quiet`), many that bring nothing at once
-// (`passing`), and any number that bring line timeouts alone (`settled`). No area is touched.
+// (`passing`), and any number that bring line timeouts alone (`resting`). No area is touched.
 //
 // Each promise is an equation with a definition of the crate `model`, or with one of specs/ here, of which proofs/ shows what it says of
 // the model's: BitTime for one bit time, Roll, Jump and Within for many. No public function asks anything of its caller.
@@ -7,7 +7,7 @@ use model::Controller;
 
 pub mod passing;
 pub mod quiet;
-pub mod settled;
+pub mod resting;
 
 // The master word whose reply time is reached, if one is.
 pub enum Due {

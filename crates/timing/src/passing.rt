@@ -1,7 +1,7 @@
-// Quiet bit times that surely bring nothing are passed at once, and those that bring line timeouts alone (`settled`).
+// Quiet bit times that surely bring nothing are passed at once, and those that bring line timeouts alone (`resting`).
 use crate::Passed;
 use crate::quiet;
-use crate::settled;
+use crate::resting;
 use constants::BUS_TIMEOUT;
 use constants::LINE_TIMEOUT;
 use model::Controller;
@@ -88,11 +88,11 @@ fn later(k: u16, c: Controller) -> Controller
 pub fn jump(n: u32, c: Controller) -> Passed
     ensures { λ r. ⌜ r ≡ jumped n c ⌝ }
 {
-    let only_line_timeouts = settled::settled(c);
+    let only_line_timeouts = resting::resting(c);
     if only_line_timeouts {
         return Passed {
             left: 0,
-            controller: settled::rolled(n, c),
+            controller: resting::rolled(n, c),
         };
     }
     let k = least(n, free(c));

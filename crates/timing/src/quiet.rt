@@ -119,7 +119,7 @@ fn disturbs_late(d: Due) -> bool
 {
     match d {
         Due::No => false,
-        Due::Word(w) => !lines::arbitration(w / CODE_UNIT),
+        Due::Word(w) => !lines::exempt(w / CODE_UNIT),
     }
 }
 

@@ -1,8 +1,8 @@
 -- `frames::reply_size` gives the defined size: its table of numbers is the defined list, entry by entry. Assumes nothing.
 use mathlib.Core.Path.{sym, ap, _∙_}
+use mathlib.Core.Option.{none}
 use borrow.Author.Needs.{needs}
 use lib.ListN.{List·getD-eq-default}
-use Rattle.frames.specs.declared.Expected.the-variants.{NoReply}
 use Rattle.frames.specs.Size.{sizes, expectedOf}
 use Rattle.frames.proofs.Sizes.{entry, by-table, some-words}
 use Rattle.frames.proofs.reply_size.Statement.{statement}
@@ -10,7 +10,7 @@ use Rattle.frames.proofs.reply_size.Tie as tie
 
 returns : tie.Need-returns
 unfolding expectedOf sizes
-returns c = sym (List·getD-eq-default sizes NoReply (c .if1 .taken))
+returns c = sym (List·getD-eq-default sizes none (c .if1 .taken))
 
 returns-2 : tie.Need-returns-2
 unfolding sizes

@@ -1,11 +1,10 @@
--- `rule1` meets its contract: the definition is opened, and its parts are what the callees ensure. Assumes nothing.
-use Rattle.model.specs.Lines.{rule1}
+-- `rule1` meets its contract: field by field it is what the callees ensure. Assumes nothing.
+use Rattle.lines.proofs.Fields.{fields1}
 use Rattle.lines.proofs.rule1.Statement.{statement}
 use Rattle.lines.proofs.rule1.Tie as tie
 
 returns : tie.Need-returns
-unfolding rule1
-returns c = cc
+returns c = let a = c .before .before .before .args in cc (fields1 (a .occasion) (a .l))
 
 pub rule1-spec : {M : Type 1} → statement M
 rule1-spec = tie.close (tie.spec (λ c κs. tt) (λ c κs. tt) returns)

@@ -1,4 +1,4 @@
--- `found::with_word` gives the port by what stands there. Assumes nothing.
+-- `found::with_word` goes by what stands there. Assumes nothing.
 use borrow.Author.Needs.{needs}
 use Rattle.answering.proofs.found.with_word.Statement.{statement}
 use Rattle.answering.proofs.found.with_word.Tie as tie

@@ -4,7 +4,9 @@ use Rattle.answering.proofs.need.event_refusal.Statement.{statement}
 use Rattle.answering.proofs.need.event_refusal.Tie as tie
 
 returns : tie.Need-returns
-returns c = rw (c .pick3 .ensures, c .before .pick2 .ensures, c .before .before .pick .ensures)
+returns c = cc
 
 pub event-refusal-spec : {M : Type 1} → statement M
-event-refusal-spec = tie.close (tie.spec (λ c κs. search needs) (λ c κs. search needs) (λ c κs. search needs) returns)
+event-refusal-spec =
+    tie.close
+    (tie.spec (λ c κs. search needs) (λ c κs. search needs) (λ c κs. search needs) (λ c κs. search needs) returns)

@@ -4,11 +4,7 @@ use Rattle.answering.proofs.reply.source_at.Statement.{statement}
 use Rattle.answering.proofs.reply.source_at.Tie as tie
 
 returns : tie.Need-returns
-returns c =
-    let seen = c .before .before .before in
-    rw (c .both2 .ensures, c .before .both .ensures, seen .flags-of .ensures, seen .before .get-port .ensures)
+returns c = cc
 
 pub source-at-spec : {M : Type 1} → statement M
-source-at-spec =
-    tie.close
-    (tie.spec (λ c κs. search needs) (λ c κs. search needs) (λ c κs. search needs) (λ c κs. search needs) returns)
+source-at-spec = tie.close (tie.spec (λ c κs. search needs) (λ c κs. search needs) (λ c κs. search needs) (λ c κs. search needs) returns)

@@ -6,11 +6,10 @@ use Rattle.areas.proofs.port.valid_words.Tie as tie
 returns : tie.Need-returns
 returns c =
     let back4 = c .before .before .before .before in
-    rw (
-      c .valid-part .ensures,
-      c .before .flags-of .ensures,
-      c .before .before .port-size .ensures,
-      back4 .get-port .ensures,
+    let flags = c .before .flags-of .ensures in
+    let got = back4 .get-port .ensures in (
+      rw (c .valid-part .ensures .0, flags, c .before .before .port-size .ensures, got),
+      rw (flags, got) at (c .valid-part .ensures .1),
     )
 
 pub valid-words-spec : {M : Type 1} → statement M

@@ -3,6 +3,7 @@ use Rattle.model.specs.Event.{world}
 use Rattle.model.specs.Quiet.{tick, tickEffect}
 use Rattle.timing.proofs.BitTime.{tick-controller}
 use Rattle.areas.specs.Lent.{lent}
+use Rattle.answering.proofs.Ports.{late-found}
 use borrow.Author.Needs.{needs}
 use Rattle.bus.proofs.calls.tick.Statement.{statement}
 use Rattle.bus.proofs.calls.tick.Tie as tie
@@ -11,13 +12,21 @@ returns : tie.Need-returns
 unfolding tick tickEffect
 returns c =
     let missed = c .before .before .before in
-    let a = missed .before .before .before .before .before .before .before .before .args in
+    let due = missed .before .before .before .before .before in
+    let a = due .before .before .before .before .before .before .before .args in
+    let m = lent (a .index) (a .ports) (a .page0) (a .page1) in
     rw (
       c .tick-controller .ensures,
       missed .miss .ensures,
-      missed .before .due .ensures,
-      tick-controller (world (a .c) (lent (a .index) (a .ports) (a .page0) (a .page1))),
+      missed .before .sink-of .ensures,
+      missed .before .before .before .before .sought-due .ensures,
+      due .due .ensures,
+      tick-controller (world (a .c) m),
+      late-found m,
     )
 
 pub tick-spec : {M : Type 1} → statement M
-tick-spec = tie.close (tie.spec (λ c κs. search needs) (λ c κs. search needs) (λ c κs. search needs) (λ c. search needs) returns)
+tick-spec =
+    tie.close
+    (tie.spec (λ c κs. search needs) (λ c κs. search needs) (λ c κs. search needs) (λ c κs. search needs) (λ c κs. search needs)
+    (λ c. search needs) returns)

@@ -1,11 +1,11 @@
 -- `settings::set_address` meets its contract: the definitions are opened, and its parts are what the callees ensure. Assumes nothing.
 use Rattle.model.specs.Host.{tell}
-use Rattle.controller.specs.Settings.{told}
+use Rattle.controller.specs.Settings.{toldFor}
 use Rattle.controller.proofs.settings.set_address.Statement.{statement}
 use Rattle.controller.proofs.settings.set_address.Tie as tie
 
 returns : tie.Need-returns
-unfolding told tell
+unfolding toldFor tell
 returns c = cc
 
 pub set-address-spec : {M : Type 1} → statement M

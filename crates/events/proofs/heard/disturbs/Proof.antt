@@ -6,7 +6,7 @@ use Rattle.events.proofs.heard.disturbs.Tie as tie
 returns-4 : tie.Need-returns-4
 returns-4 c =
     let b = c .before .before in
-    rw (c .both .ensures, c .before .arbitration .ensures, b .is-bad .ensures, b .before .before .h .given .1)
+    rw (c .both .ensures, c .before .exempt .ensures, b .is-bad .ensures, b .before .before .h .given .1)
 
 pub disturbs-spec : {M : Type 1} → statement M
 disturbs-spec =

@@ -4,7 +4,7 @@ use denote.Ref.{now}
 use Rattle.digits.specs.Write.{paper}
 use Rattle.model.specs.Calls.{Outcome}
 use Rattle.areas.specs.Lent.{lent}
-use Rattle.meaning.specs.Meaning.{answered, stateOf, endedBy}
+use Rattle.meaning.specs.Meaning.{answered, stateAfter, endedBy}
 use Rattle.meaning.proofs.Keys.{frame-given}
 use borrow.Author.Needs.{needs}
 use Rattle.meaning.proofs.calls.hear.Statement.{statement}
@@ -17,7 +17,7 @@ returns c =
     let judged = tested .before in
     let a = tested .before .before .before .before .before .before .before .before .args in
     let n = a .f in
-    let s = stateOf (lent (a .index) (a .ports) (a .page0) (a .page1)) (a .s) in
+    let s = stateAfter (lent (a .index) (a .ports) (a .page0) (a .page1)) (a .s) in
     rw (
       frame-given (n .good) s (n .hearing),
       ← judged .before .is-whole .ensures,
@@ -31,7 +31,7 @@ returns-2 c =
     let judged = c .before .before in
     let a = judged .before .before .before .before .before .before .before .args in
     let n = a .f in
-    let s = stateOf (lent (a .index) (a .ports) (a .page0) (a .page1)) (a .s) in
+    let s = stateAfter (lent (a .index) (a .ports) (a .page0) (a .page1)) (a .s) in
     rw (
       frame-given (n .good) s (n .hearing),
       ← judged .before .is-whole .ensures,

@@ -1,7 +1,7 @@
 -- `calls::open` opens the port where its number is due. Assumes nothing.
 use mathlib.Core.Path.{sym, _∙_}
 use Rattle.digits.specs.Read.{cut}
-use Rattle.meaning.specs.Meaning.{stateOf}
+use Rattle.meaning.specs.Meaning.{stateAfter}
 use Rattle.areas.specs.Lent.{lent}
 use Rattle.meaning.proofs.Hosting.{hosted-ended}
 use Rattle.meaning.proofs.Keys.{index-given}
@@ -15,7 +15,7 @@ returns c = λ o.
     let tested = called .before .before .before .before in
     let a = tested .before .before .before .before .before .before .before .before .args in
     let n = a .n in
-    let s = stateOf (lent (a .index) (a .ports) (a .page0) (a .page1)) (a .s) in
+    let s = stateAfter (lent (a .index) (a .ports) (a .page0) (a .page1)) (a .s) in
     rw (
       index-given (n .good) s (cut 65535 (n .value)),
       sym (tested .before .both .ensures) ∙ tested .if1 .taken,
@@ -27,7 +27,7 @@ returns-2 : tie.Need-returns-2
 returns-2 c = λ o.
     let a = c .before .before .before .before .before .before .before .before .before .args in
     let n = a .n in
-    let s = stateOf (lent (a .index) (a .ports) (a .page0) (a .page1)) (a .s) in
+    let s = stateAfter (lent (a .index) (a .ports) (a .page0) (a .page1)) (a .s) in
     rw (index-given (n .good) s (cut 65535 (n .value)), sym (c .before .before .both .ensures) ∙ c .before .if1 .left)
     (c .misplace .ensures _ o)
 

@@ -1,6 +1,6 @@
 -- `calls::set_code` is a setup line in its place. Assumes nothing.
 use Rattle.digits.specs.Read.{cut}
-use Rattle.meaning.specs.Meaning.{stateOf}
+use Rattle.meaning.specs.Meaning.{stateAfter}
 use Rattle.meaning.proofs.Keys.{fcode-given}
 use borrow.Author.Needs.{needs}
 use Rattle.meaning.proofs.calls.set_code.Statement.{statement}
@@ -11,7 +11,7 @@ returns c = λ m o.
     let a = c .before .before .before .before .before .args in
     let n = a .n in
     rw (
-      fcode-given (n .good) (stateOf m (a .s)) (cut 65535 (n .value)),
+      fcode-given (n .good) (stateAfter m (a .s)) (cut 65535 (n .value)),
       ← c .before .both .ensures,
       ← c .before .before .before .word .ensures,
     ) (c .describe .ensures m o)

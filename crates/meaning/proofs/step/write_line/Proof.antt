@@ -4,13 +4,13 @@ use mathlib.Core.List.{List}
 use Prim.Native.Nat.{ℕ}
 use mathlib.Core.Bool.{_&&_}
 use denote.Ref.{now}
-use lib.ListN.{replicate, take}
+use lib.ListN.{replicate}
 use lib.Seq.{length-take-le}
+use Rattle.digits.specs.Marks.{semicolon}
 use Rattle.digits.specs.Cut.{has}
-use Rattle.digits.specs.Read.{cut, readingOf, numbersIn}
-use Rattle.text.specs.Line.{write, below, secondOf, writeOf}
+use Rattle.digits.specs.Read.{readingOf, numbersIn}
+use Rattle.text.specs.Line.{below, secondList, writeOf}
 use Rattle.meaning.specs.Meaning.{meaning}
-use Rattle.meaning.proofs.Keys.{numbered-given}
 use Rattle.text.proofs.Frames.{write-good, write-kept, cut-most}
 use native.Mathlib.Omega.{arith}
 use borrow.Author.Needs.{needs}
@@ -44,17 +44,15 @@ returns c = λ o.
     let a = listed .before .before .before .before .before .before .before .before .args in
     let v = now (a .v) in
     let e = l .ensures ∙ ap (λ (t : List ℕ). readingOf (replicate 17 0) (numbersIn t)) (listed .before .before .after .ensures) in
-    let flag : judged .both .result ≡ (has 59 v && below 65535 (secondOf 59 v))
+    let flag : judged .both .result ≡ (has semicolon v && below 65535 (secondList semicolon v))
     = rw (judged .both .ensures, judged .before .before .has .ensures, judged .before .is-below .ensures) (write-good v _ _ e) in
     let good = sym flag ∙ tested .if1 .taken in
-    let words = take (counted .at-most .result) (l .last .1 .0) in
     rw (
       good,
       ← write-kept v _ _ e good,
       ← counted .at-most .ensures,
       ← read .before .before .before2 .ensures,
       ← (read .numeral .ensures ∙ read .before .number .ensures),
-      numbered-given (λ (n : ℕ). write (cut 65535 n) words) (read .numeral .result),
     )
     (called .write .ensures o)
 
@@ -67,7 +65,7 @@ returns-2 c = λ o.
     let v = now (p14 .args .v) in
     let l = p6 in
     let e = l .numbers .ensures ∙ ap (λ (t : List ℕ). readingOf (replicate 17 0) (numbersIn t)) (l .before .before .after .ensures) in
-    let flag : c .before .before .both .result ≡ (has 59 v && below 65535 (secondOf 59 v))
+    let flag : c .before .before .both .result ≡ (has semicolon v && below 65535 (secondList semicolon v))
     = rw (c .before .before .both .ensures, p4 .has .ensures, c .before .before .before .is-below .ensures) (write-good v _ _ e) in
     rw (sym flag ∙ c .before .if1 .left) (c .misplace .ensures _ o)
 

@@ -1,6 +1,8 @@
 -- `ports::calls::ask` answers as defined: from what its callees ensure. Assumes nothing.
+use mathlib.Core.Path.{_≡_, _∙_, ap}
 use borrow.Author.Needs.{needs}
-use Rattle.model.specs.Calls.{asked}
+use Rattle.model.specs.Calls.{asked, refusalOf}
+use Rattle.model.proofs.Reading.{asked-number}
 use Rattle.areas.specs.Lent.{lent}
 use Rattle.ports.proofs.Host.{read-number}
 use Rattle.ports.proofs.calls.ask.Statement.{statement}
@@ -12,6 +14,7 @@ returns c =
     let found = c .before .before .before in
     let a = found .before .before .before .before .before .before .before .args in
     let m = lent (a .index) (a .ports) (a .page0) (a .page1) in
+    let answers : c .pick-answer .result ≡ asked m (a .a) =
     rw (
       read-number m (a .a),
       c .pick-answer .ensures,
@@ -20,7 +23,8 @@ returns c =
       found .get-port .ensures,
       found .before .get .ensures,
       found .before .before .reach .ensures,
-    )
+    ) in
+    (answers, ap refusalOf answers ∙ asked-number m (a .a))
 
 pub ask-spec : {M : Type 1} → statement M
 ask-spec =

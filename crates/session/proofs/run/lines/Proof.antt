@@ -1,14 +1,14 @@
 -- `run::lines` prints what is defined of the input. The loop's invariant: what is printed of the rest, from here on, is what is printed
 -- of the whole from the start. Assumes nothing.
-use Prim.Native.Nat.{ℕ, _-_, _<_, _≤_}
+use Prim.Native.Nat.{_-_, _≤_}
 use mathlib.Core.Path.{_≡_, refl, _∙_}
 use denote.Ref.{now}
 use lib.ListN.{length, drop, drop-of-length-le}
 use Rattle.digits.specs.Write.{paper, onto}
 use Rattle.model.specs.Layout.{areas}
 use Rattle.areas.specs.Lent.{lent}
-use Rattle.meaning.specs.Meaning.{stateOf}
-use Rattle.session.specs.Printed.{lines, printedFrom}
+use Rattle.meaning.specs.Meaning.{stateAfter}
+use Rattle.session.specs.Printed.{textLines, printedFrom}
 use Rattle.session.proofs.Lines.{from-start, printed-on, printed-stop}
 use native.Mathlib.Omega.{arith}
 use borrow.Author.Needs.{needs}
@@ -19,8 +19,8 @@ abbrev Inv-loop : tie.InvT-loop
 Inv-loop index₀ ports₀ page0₀ page1₀ out₀ input s₀ i₀ index ports page0 page1 out s i =
     (i ≤ length input) × (length index ≡ length index₀) × (length ports ≡ length ports₀) × (length page0 ≡ length page0₀)
     × (length page1 ≡ length page1₀) × (length out ≡ length out₀)
-    × (onto (paper out (s .at)) (printedFrom (lines (drop i input)) (stateOf (areas index ports page0 page1) s)) ≡
-    onto (paper out₀ (s₀ .at)) (printedFrom (lines input) (stateOf (areas index₀ ports₀ page0₀ page1₀) s₀)))
+    × (onto (paper out (s .at)) (printedFrom (textLines (drop i input)) (stateAfter (areas index ports page0 page1) s)) ≡
+    onto (paper out₀ (s₀ .at)) (printedFrom (textLines input) (stateAfter (areas index₀ ports₀ page0₀ page1₀) s₀)))
 
 abbrev μ-loop : tie.MeasureT-loop
 μ-loop index₀ ports₀ page0₀ page1₀ out₀ input s₀ i₀ index ports page0 page1 out s i = length input - i
@@ -44,7 +44,7 @@ loop-again c =
     let l = turn .before .loop in
     let t = now (turn .before .before .before .before .before .before .before .before .before .args .input) in
     let p = paper (l .out) (l .s .at) in
-    let s = stateOf (areas (l .index) (l .ports) (l .page0) (l .page1)) (l .s) in (
+    let s = stateAfter (areas (l .index) (l .ports) (l .page0) (l .page1)) (l .s) in (
       c .next-line .ensures .2,
       omega (arith, stepped .step .kept, l .inv .1),
       omega (arith, stepped .step .kept, l .inv .2),
@@ -100,13 +100,13 @@ returns c =
     let l = turn .before .loop in
     let t = now (turn .before .before .before .before .before .before .before .before .before .args .input) in
     let p = paper (l .out) (l .s .at) in
-    let s = stateOf (areas (l .index) (l .ports) (l .page0) (l .page1)) (l .s) in
+    let s = stateAfter (areas (l .index) (l .ports) (l .page0) (l .page1)) (l .s) in
     c .before .before .put-refused .ensures
     ∙ printed-stop p _ t (l .i) _ s _ _ (turn .loop-test .taken) (cut .line-at .ensures) (stepped .step .ensures) (tested .if1 .left)
     ∙ l .inv .6 ∙ from-start _ t _ _ (turn .before .before .begin .ensures)
 
 returns-2 : tie.Need-returns-2 Inv-loop μ-loop
-unfolding printedFrom lines
+unfolding printedFrom textLines
 returns-2 c =
     let tested = c .before .before .before .before .before .before .before .before in
     let l = tested .before .loop in

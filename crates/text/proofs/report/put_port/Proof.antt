@@ -18,8 +18,8 @@ returns c =
     rw (
       ← addr .before .before .before .before .before .before .get-port .ensures,
       ← addr .before .before .before .before .before .flags-of .ensures,
-      ← addr .before .before .before .before .ask .ensures,
-      ← addr .before .before .before .fetch .ensures,
+      ← addr .before .before .before .before .ask .ensures .0,
+      ← addr .before .before .before .fetch .ensures .0,
     )
     (then _ _ _ (then _ _ _ (then _ _ _ (then _ _ _
     (then _ _ _ (then _ _ _ (addr .put-numbered .ensures) (code .put-numbered2 .ensures)) (dir .put-dir .ensures))

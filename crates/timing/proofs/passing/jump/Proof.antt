@@ -6,13 +6,13 @@ use Rattle.timing.proofs.passing.jump.Tie as tie
 
 returns : tie.Need-returns
 unfolding jumped
-returns c = rw (c .rolled .ensures, ← (c .before .before .settled .ensures), c .before .if1 .taken)
+returns c = rw (c .rolled .ensures, ← (c .before .before .resting .ensures), c .before .if1 .taken)
 
 returns-2 : tie.Need-returns-2
 unfolding jumped
 returns-2 c =
     let b = c .before .before .before in
-    rw (c .later .ensures, c .before .least .ensures, c .before .before .free .ensures, ← (b .before .settled .ensures), b .if1 .left)
+    rw (c .later .ensures, c .before .least .ensures, c .before .before .free .ensures, ← (b .before .resting .ensures), b .if1 .left)
 
 pub jump-spec : {M : Type 1} → statement M
 jump-spec =

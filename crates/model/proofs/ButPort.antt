@@ -1,0 +1,126 @@
+-- Areas that are the same but for status bits of one port stay so under one effect, and the port that the effect concerns is then the same
+-- too. Assumes nothing.
+use Prim.Native.Nat.{ℕ, _+_, _*_, _≤_}
+use mathlib.Core.Path.{_≡_, refl, sym, _∙_, ap, subst}
+use mathlib.Core.Logic.{_⊎_, inl, inr}
+use mathlib.Core.List.{List}
+use mathlib.Core.Option.{Option, none, some}
+use native.Mathlib.Omega.{arith}
+use native.Mathlib.Decide.{ℕ-discrete}
+use lib.ListN.{length}
+use borrow.Author.Tests.{ne-eqb}
+use Rattle.model.specs.declared.Words.{Words}
+use Rattle.model.specs.declared.Flags.{Flags}
+use Rattle.model.specs.declared.Faults.{Faults}
+use Rattle.model.specs.Layout.{Areas, stride, place, wordsAt, withWords, portAt, flagsOf}
+use Rattle.model.specs.Ports.{Effect, untouched, fill, mark, opened, closed, filledWords, faulty, markedWords, filled, apply}
+use Rattle.model.proofs.Shape.{Shape, Valid, filling, marking, opening, closing}
+use Rattle.model.proofs.PortDoubt.{settle}
+use Rattle.model.proofs.PortWords.{words-same, words-other}
+use Rattle.model.proofs.Bits.{flags-of-word}
+use Rattle.model.proofs.Formed.{lengths}
+use Rattle.model.proofs.ShapeKept.{at-here}
+
+-- n is m, but for status bits of port o, if there is one
+pub record ButPort (o : Option ℕ) (m n : Areas) : Type 0 where
+  pub index : n .index ≡ m .index
+  pub page0 : n .page0 ≡ m .page0
+  pub page1 : n .page1 ≡ m .page1
+  pub same : (p : ℕ) → (o ≡ some p → ⊥) → portAt n p ≡ portAt m p
+  pub only : (p : ℕ) → (portAt n p ≡ portAt m p) ⊎ ((x : Faults) × (portAt n p ≡ markedWords (portAt m p) x))
+
+-- the port that an effect concerns
+abbrev pub portAffected : Effect → Option ℕ
+portAffected untouched = none
+portAffected (fill p ws) = some p
+portAffected (mark p x) = some p
+portAffected (opened a p code sink i) = some p
+portAffected (closed a p) = some p
+
+-- words that are the same but for status bits
+abbrev Near : Words → Words → Type 0
+Near w v = (v ≡ w) ⊎ ((x : Faults) × (v ≡ markedWords w x))
+
+-- of such words the same is made by a fill, and by a mark
+near-filled : (w v : Words) → Near w v → filledWords v ≡ filledWords w
+unfolding filledWords markedWords
+near-filled w v (inl e) = ap filledWords e
+near-filled w v (inr e) = ap filledWords (e .1) ∙ rw (flags-of-word (faulty (flagsOf (w .flags)) (e .0)))
+
+near-marked : (w v : Words) (x : Faults) → Near w v → markedWords v x ≡ markedWords w x
+unfolding markedWords
+near-marked w v x (inl e) = ap (λ (z : Words). markedWords z x) e
+near-marked w v x (inr e) =
+    ap (λ (z : Words). markedWords z x) (e .1) ∙ rw (flags-of-word (faulty (flagsOf (w .flags)) (e .0)))
+
+-- they have the same valid page
+near-page : (w v : Words) → Near w v → flagsOf (v .flags) .vp ≡ flagsOf (w .flags) .vp
+unfolding markedWords
+near-page w v (inl e) = ap (λ (z : Words). flagsOf (z .flags) .vp) e
+near-page w v (inr e) =
+    ap (λ (z : Words). flagsOf (z .flags) .vp) (e .1) ∙ ap (λ (f : Flags). f .vp) (flags-of-word (faulty (flagsOf (w .flags)) (e .0)))
+
+-- ---- the port words
+
+record Ports (o : Option ℕ) (l k : List ℕ) : Type 0 where
+  same : (p : ℕ) → (o ≡ some p → ⊥) → wordsAt k p ≡ wordsAt l p
+  only : (p : ℕ) → Near (wordsAt l p) (wordsAt k p)
+
+-- the words of port p are set in both
+ports-with : (o : Option ℕ) (l k : List ℕ) (p : ℕ) (w v : Words) → place p + stride ≤ length l → place p + stride ≤ length k → v ≡ w
+    → Ports o l k → Ports (settle (some p) o) (withWords l p w) (withWords k p v)
+ports-with o l k p w v hl hk e h =
+    record { same = λ q n. here q n (ℕ-discrete q p); only = λ q. there q (ℕ-discrete q p) }
+  where
+    set : (q : ℕ) → q ≡ p → wordsAt (withWords k p v) q ≡ wordsAt (withWords l p w) q
+    set q i = rw i (words-same k p v hk ∙ e ∙ sym (words-same l p w hl))
+
+    left : (q : ℕ) → (q ≡ p → ⊥) → (settle (some p) o ≡ some q → ⊥) → o ≡ some q → ⊥
+    left q ne n i = n (rw (i, ne-eqb p q (λ z. ne (sym z))))
+
+    here : (q : ℕ) → (settle (some p) o ≡ some q → ⊥) → Dec (q ≡ p) → wordsAt (withWords k p v) q ≡ wordsAt (withWords l p w) q
+    here q n (yes i) = set q i
+    here q n (no ne) = words-other k p q v ne ∙ h .same q (left q ne n) ∙ sym (words-other l p q w ne)
+
+    there : (q : ℕ) → Dec (q ≡ p) → Near (wordsAt (withWords l p w) q) (wordsAt (withWords k p v) q)
+    there q (yes i) = inl (set q i)
+    there q (no ne) = rw (words-other k p q v ne, words-other l p q w ne) (h .only q)
+
+-- ---- the areas
+
+module _ (o : Option ℕ) (m n : Areas) (s : Shape m) (t : Shape n) (b : ButPort o m n) where
+  ports : Ports o (m .ports) (n .ports)
+  ports = record { same = b .same; only = b .only }
+
+  room : (l : List ℕ) (p : ℕ) → length l ≡ stride * 256 → p ≤ 255 → place p + stride ≤ length l
+  room l p e h = omega arith
+
+  with-port : (p : ℕ) (w v : Words) → p ≤ 255 → v ≡ w
+      → Ports (settle (some p) o) (withWords (m .ports) p w) (withWords (n .ports) p v)
+  with-port p w v h e =
+      ports-with o (m .ports) (n .ports) p w v (room (m .ports) p (lengths m (s .fits) .ports) h)
+      (room (n .ports) p (lengths n (t .fits) .ports) h) e ports
+
+  -- One effect on both leaves them the same but for status bits of port o, and these too if the effect concerns port o.
+  pub but-apply : (e : Effect) → Valid m e → ButPort (settle (portAffected e) o) (apply e m) (apply e n)
+  unfolding apply filled
+  but-apply untouched v = b
+  but-apply (fill p ws) (filling at size) =
+      let near = b .only p in
+      let r = with-port p (filledWords (portAt m p)) (filledWords (portAt n p)) (at-here at .small)
+      (near-filled (portAt m p) (portAt n p) near) in
+      rw (near-page (portAt m p) (portAt n p) near, b .page0, b .page1)
+      (record { index = b .index; page0 = refl; page1 = refl; same = r .same; only = r .only })
+  but-apply (mark p x) (marking at) =
+      let r = with-port p (markedWords (portAt m p) x) (markedWords (portAt n p) x) (at-here at .small)
+      (near-marked (portAt m p) (portAt n p) x (b .only p)) in
+      record { index = b .index; page0 = b .page0; page1 = b .page1; same = r .same; only = r .only }
+  but-apply (opened a p code sink i) (opening ha pos hp hc hi free unused) =
+      let r = with-port p _ _ hp refl in
+      record { index = rw (b .index); page0 = b .page0; page1 = b .page1; same = r .same; only = r .only }
+  but-apply (closed a p) (closing at) =
+      let r = with-port p _ _ (at-here at .small) refl in
+      record { index = rw (b .index); page0 = b .page0; page1 = b .page1; same = r .same; only = r .only }
+
+  pub but-effects : {e f : Effect} → e ≡ f → Valid m f → ButPort (settle (portAffected f) o) (apply f m) (apply e n)
+  but-effects {e} {f} i v = subst (λ (g : Effect). ButPort (settle (portAffected f) o) (apply f m) (apply g n)) (sym i) (but-apply f v)

@@ -1,0 +1,196 @@
+-- What follows from `MayDiffer`: with no port in doubt the areas are equal word for word; asking answers the same at every address but the
+-- doubtful port's; every call is answered with the same number, and every master frame with the same reply. Assumes nothing.
+use Prim.Native.Nat.{ℕ, zero, suc, _+_, _/_, _%_, _<_}
+use mathlib.Core.Path.{_≡_, refl, sym, _∙_, ap, ap₂}
+use mathlib.Core.Logic.{_⊎_, inl, inr}
+use mathlib.Core.Bool.{Bool, true, false, cond, true≢false}
+use mathlib.Core.List.{List, [], _∷_, _++_}
+use mathlib.Core.Option.{Option, none, some}
+use native.Mathlib.Nat.{add-zero}
+use native.Mathlib.Omega.{arith}
+use lib.Dec.{eqb}
+use borrow.Author.Tests.{eqb-true, eq-eqb}
+use lib.ListN.{length, getD}
+use lib.Seq.{ext-getD}
+use Rattle.frames.specs.declared.Hearing.{Hearing}
+use Rattle.model.specs.declared.Answer.the-variants.{Refused}
+use Rattle.model.specs.declared.Words.{Words}
+use Rattle.model.specs.Layout.{Areas, areas, entry, place, wordsAt, portAt, flagsOf}
+use Rattle.model.specs.Ports.{codeOf, validWords, stateOf, Standing, standing}
+use Rattle.model.specs.Event.{World}
+use Rattle.model.specs.Calls.{Call, hear, readPort, noPort, freshOver, portRefusal, refusal, answer, asked, partFor, fetched}
+use Rattle.model.specs.Past.{after, Accepted, firstWord}
+use Rattle.model.specs.Damage.{Damage, SoundMaster}
+use Rattle.model.specs.Differ.{AllHosts, Follows, ended, then, waitingAddress, finishes, remains, doubtful}
+use Rattle.model.proofs.PortDoubt.{portAtAddress}
+use Rattle.model.proofs.ButPort.{ButPort}
+use Rattle.model.proofs.Formed.{lengths}
+use Rattle.model.proofs.Refused.{accepted}
+use Rattle.model.proofs.Standings.{none-entry}
+use Rattle.model.proofs.Reading.{fetches}
+use Rattle.model.proofs.Same.{Alike, same-entry}
+use Rattle.model.proofs.Alike.{refuses-same}
+use Rattle.model.proofs.Told.{past-told}
+use Rattle.model.proofs.ByAddress.{here-alone, waiting-address}
+use Rattle.model.proofs.MayDiffer.{near-kept, near-between, Joined, joined}
+use Rattle.model.proofs.Damage.{master-reply}
+
+-- ---- no port in doubt
+
+-- port words that are the same at every port are the same list
+ports-equal : (l k : List ℕ) → length k ≡ length l → ((p : ℕ) → wordsAt k p ≡ wordsAt l p) → k ≡ l
+unfolding wordsAt
+ports-equal l k e h = ext-getD 0 k l e (λ i b. at i (i / 4) (i % 4) (omega arith) (omega arith))
+  where
+    at : (i p r : ℕ) → i ≡ place p + r → r < 4 → getD k i 0 ≡ getD l i 0
+    at i p zero j b = rw (j, add-zero (place p)) (ap (λ (w : Words). w .master) (h p))
+    at i p (suc zero) j b = rw j (ap (λ (w : Words). w .flags) (h p))
+    at i p (suc (suc zero)) j b = rw j (ap (λ (w : Words). w .interrupt) (h p))
+    at i p (suc (suc (suc zero))) j b = rw j (ap (λ (w : Words). w .fills) (h p))
+    at i p (suc (suc (suc (suc r)))) j b = absurd (omega arith)
+
+areas-equal : (m n : Areas) → Alike n m → ButPort none m n → n ≡ m
+areas-equal m n k b =
+    let long : length (n .ports) ≡ length (m .ports) =
+    lengths n (k .shape .fits) .ports ∙ sym (lengths m (k .shape′ .fits) .ports) in
+    let words : n .ports ≡ m .ports =
+    ports-equal (m .ports) (n .ports) long (λ p. b .same p (λ e. let z : _≡_ {A = ℕ} 0 1 = cc in omega arith)) in
+    ap₂ (λ (i p : List ℕ). areas i p (n .page0) (n .page1)) (b .index) words
+    ∙ ap₂ (λ (z o : List ℕ). areas (m .index) (m .ports) z o) (b .page0) (b .page1)
+
+-- ---- asking
+
+asked-but : (m n : Areas) → Alike n m → (o : Option ℕ) → ButPort o m n → (a : ℕ) → (o ≡ some (entry m a) → ⊥) → asked n a ≡ asked m a
+unfolding asked portRefusal
+asked-but m n k o b a x =
+    let r : refusal (readPort a) (freshOver n) ≡ refusal (readPort a) (freshOver m) = refuses-same (freshOver n) (freshOver m) k (readPort a) in
+    let w : portAt n (entry n a) ≡ portAt m (entry m a) =
+    ap (portAt n) (same-entry n m k a) ∙ b .same (entry m a) x in
+    ap₂ (λ (f : ℕ) (q : ℕ). cond (eqb q 0) (stateOf (flagsOf f)) (Refused q)) (ap (λ (v : Words). v .flags) w) r
+
+-- ---- fetching
+
+-- nothing is fetched where no port stands
+closed-empty : (m : Areas) (a : ℕ) → entry m a ≡ 0 → fetched m a ≡ []
+unfolding fetched asked portRefusal
+closed-empty m a z = go (eqb (refusal (readPort a) (freshOver m)) 0) refl
+  where
+    go : (b : Bool) → eqb (refusal (readPort a) (freshOver m)) 0 ≡ b
+        → partFor (cond b (stateOf (flagsOf (portAt m (entry m a) .flags))) (Refused (refusal (readPort a) (freshOver m))))
+        (validWords m (entry m a)) ≡ []
+    go true e = absurd (true≢false (sym (eq-eqb _ 0 z) ∙ accepted (readPort a) (freshOver m) (eqb-true _ _ e) noPort))
+    go false e = refl
+
+fetched-alike : (m n : Areas) → Alike n m → (a : ℕ) → fetched n a ≡ fetched m a
+fetched-alike m n k a = go (standing m a) refl
+  where
+    go : (o : Option Standing) → standing m a ≡ o → fetched n a ≡ fetched m a
+    go none e =
+        let z = none-entry m a (k .shape′) e in
+        closed-empty n a (same-entry n m k a ∙ z) ∙ sym (closed-empty m a z)
+    go (some v) e = fetches n (k .shape) a v (k .stands a ∙ e) ∙ sym (fetches m (k .shape′) a v e)
+
+-- ---- after a stretch of damage, any host calls, a sound master frame, and any calls heard alike
+
+module _ (before stretch calls : List Call) (d : Damage before stretch) (f : Follows calls) (acc : Accepted (calls ++ (stretch ++ before))) where
+  abbrev damaged : World
+  damaged = after (calls ++ (stretch ++ before))
+
+  abbrev clean : World
+  clean = after (calls ++ before)
+
+  -- the address in doubt
+  abbrev doubt : Option ℕ
+  doubt = doubtful before (waitingAddress before) calls
+
+  shorter : Accepted (calls ++ before)
+  shorter = joined before stretch d calls f acc .0
+
+  both : Joined (portAtAddress (calls ++ before) doubt) clean damaged
+  both = rw (waiting-address before calls shorter) (joined before stretch d calls f acc .1)
+
+  -- Once the port that waited has finished an exchange, or if none waited, the four areas are equal word for word.
+  pub areas-same : doubt ≡ none → damaged .areas ≡ clean .areas
+  areas-same e =
+      areas-equal (clean .areas) (damaged .areas) (both .same .areas) (rw e at (both .but))
+
+  -- Asking answers the same at every address but the one in doubt: good against held there alone.
+  pub asked-same : (a : ℕ) → (doubt ≡ some a → ⊥) → asked (damaged .areas) a ≡ asked (clean .areas) a
+  asked-same a n =
+      asked-but (clean .areas) (damaged .areas) (both .same .areas) _ (both .but) a
+      (λ e. n (here-alone (calls ++ before) (past-told (calls ++ before) shorter) doubt a e))
+
+  -- Fetching hands back the same at every address, the doubtful port's too.
+  pub fetched-same : (a : ℕ) → fetched (damaged .areas) a ≡ fetched (clean .areas) a
+  fetched-same a = fetched-alike (clean .areas) (damaged .areas) (both .same .areas) a
+
+  -- Every call is answered with the same number.
+  pub numbers-same : (c : Call) → refusal c damaged ≡ refusal c clean
+  numbers-same c = refuses-same damaged clean (both .same .areas) c
+
+-- The master frame that ends the stretch gets the same reply, after any host calls; a status poll is not spoken of.
+pub first-reply : (before stretch between : List Call) (x : Hearing) → SoundMaster x → (codeOf (firstWord x) ≡ 15 → ⊥)
+    → AllHosts between → Damage before stretch
+    → Accepted (between ++ (stretch ++ before))
+    → answer (hear x x) (after (between ++ (stretch ++ before))) ≡ answer (hear x x) (after (between ++ before))
+first-reply before stretch between x m poll hs d acc =
+    master-reply (after (between ++ before)) (after (between ++ (stretch ++ before)))
+    (near-kept (near-between before stretch between d hs acc .1)) x m
+
+-- And every host call among them is answered with the same number: it is refused in both runs, or in neither.
+pub host-numbers-same : (before stretch between : List Call) → AllHosts between → Damage before stretch
+    → Accepted (between ++ (stretch ++ before)) → (c : Call)
+    → refusal c (after (between ++ (stretch ++ before))) ≡ refusal c (after (between ++ before))
+host-numbers-same before stretch between hs d acc c =
+    refuses-same (after (between ++ (stretch ++ before))) (after (between ++ before))
+    (near-between before stretch between d hs acc .1 .areas) c
+
+-- ---- accepted in one run, accepted in the other
+
+between-back : (before stretch between : List Call) → Damage before stretch → AllHosts between → Accepted (stretch ++ before)
+    → Accepted (between ++ before) → Accepted (between ++ (stretch ++ before))
+between-back before stretch [] d hs long short = long
+between-back before stretch (c ∷ between) d hs long short =
+    let r = between-back before stretch between d (hs .1) long (short .2) in
+    (short .0, host-numbers-same before stretch between (hs .1) d r c ∙ short .1, r)
+
+-- If the stretch was accepted, then the calls after it are accepted exactly where they are without it.
+pub accepted-back : (before stretch : List Call) → Damage before stretch → Accepted (stretch ++ before) → (calls : List Call)
+    → Follows calls → Accepted (calls ++ before) → Accepted (calls ++ (stretch ++ before))
+accepted-back before stretch d long calls (ended {x} {between} m hs) short =
+    let r = between-back before stretch between d hs long (short .2) in
+    (short .0, host-numbers-same before stretch between hs d r (hear x x) ∙ short .1, r)
+accepted-back before stretch d long calls (then {c} {calls = later} al f) short =
+    let r = accepted-back before stretch d long later f (short .2) in
+    (short .0, numbers-same before stretch later d f r c ∙ short .1, r)
+
+-- ---- the address in doubt is the one that waited, and a finished exchange there ends the doubt for good
+
+pub one-doubt : (past : List Call) (o : Option ℕ) (calls : List Call) → (doubtful past o calls ≡ o) ⊎ (doubtful past o calls ≡ none)
+unfolding doubtful
+one-doubt past o [] = inl refl
+one-doubt past o (c ∷ calls) = go (doubtful past o calls) (one-doubt past o calls)
+  where
+    go : (x : Option ℕ) → (x ≡ o) ⊎ (x ≡ none)
+        → (remains (finishes (calls ++ past) c) x ≡ o) ⊎ (remains (finishes (calls ++ past) c) x ≡ none)
+    go none r = inr refl
+    go (some a) r = by (finishes (calls ++ past) c a)
+      where
+        by : (b : Bool) → (cond b none (some a) ≡ o) ⊎ (cond b none (some a) ≡ none)
+        by true = inr refl
+        by false = r
+
+no-more : (past : List Call) (o : Option ℕ) (later calls : List Call) → doubtful past o calls ≡ none → doubtful past o (later ++ calls) ≡ none
+unfolding doubtful
+no-more past o [] calls e = e
+no-more past o (c ∷ later) calls e = rw (no-more past o later calls e)
+
+pub doubt-ends : (past : List Call) (a : ℕ) (later calls : List Call) (c : Call) → finishes (calls ++ past) c a ≡ true
+    → doubtful past (some a) (later ++ (c ∷ calls)) ≡ none
+unfolding doubtful
+doubt-ends past a later calls c e = no-more past (some a) later (c ∷ calls) (go (one-doubt past (some a) calls))
+  where
+    go : (doubtful past (some a) calls ≡ some a) ⊎ (doubtful past (some a) calls ≡ none)
+        → remains (finishes (calls ++ past) c) (doubtful past (some a) calls) ≡ none
+    go (inl i) = rw (i, e)
+    go (inr i) = rw i
