@@ -68,7 +68,7 @@ fn frame(kind: u16, words: &[u16]) -> (ours::Hearing, plain::Hearing) {
 
 /// The two sides with the same ports: sinks of 1 and 16 words at addresses 1 and 2, a filled source of 16 words at address 3.
 struct Sides {
-    m: ours::Areas,
+    m: sides::Memory,
     c: ours::Controller,
     pm: plain::Areas,
     pc: plain::Controller,
@@ -77,13 +77,13 @@ struct Sides {
 impl Sides {
     fn new() -> Sides {
         let mut s =
-            Sides { m: ours::Areas::cleared(), c: ours::Controller::reset(), pm: plain::Areas::zero(), pc: plain::Controller::fresh() };
+            Sides { m: sides::Memory::cleared(), c: ours::Controller::reset(), pm: plain::Areas::zero(), pc: plain::Controller::fresh() };
         for (address, code, sink) in [(1, 0, 1), (2, 4, 1), (3, 4, 0)] {
-            assert_eq!(s.m.open(address, address, code, sink, 1), 0);
+            assert_eq!(s.m.lent().open(address, address, code, sink, 1), 0);
             assert_eq!(plain::open(&mut s.pm, address, address, code, sink == 1, 1), 0);
         }
         let words: Vec<u16> = (1..=16).map(|i| i * 4099).collect();
-        assert_eq!(s.m.write(3, &words), 0);
+        assert_eq!(s.m.lent().write(3, &words), 0);
         assert_eq!(plain::write(&mut s.pm, 3, &words), 0);
         s
     }
@@ -93,7 +93,7 @@ impl Sides {
         let words: Vec<u16> = (1..=size as u16).map(|i| i * 4099).collect();
         let (master, plain_master) = frame(ours::MASTER, &[code << 12 | address]);
         let (slave, plain_slave) = frame(ours::SLAVE, &words);
-        let (m, pm, pc) = (&mut self.m, &mut self.pm, &mut self.pc);
+        let (m, pm, pc) = (&mut self.m.lent(), &mut self.pm, &mut self.pc);
         let mut c = self.c;
         measure(
             calls,
@@ -110,7 +110,7 @@ impl Sides {
 
     fn reply(&mut self, calls: usize) -> (f64, f64) {
         let (master, plain_master) = frame(ours::MASTER, &[4 << 12 | 3]);
-        let (m, c, pm, pc) = (&mut self.m, self.c, &mut self.pm, &mut self.pc);
+        let (m, c, pm, pc) = (&mut self.m.lent(), self.c, &mut self.pm, &mut self.pc);
         assert_eq!(m.hear(c, master, master).reply.size, 16);
         measure(
             calls,
@@ -121,7 +121,7 @@ impl Sides {
 
     /// Quiet time after a reset, each time anew.
     fn quiet(&mut self, calls: usize, n: u32) -> (f64, f64) {
-        let (m, pm, c) = (&mut self.m, &mut self.pm, self.c);
+        let (m, pm, c) = (&mut self.m.lent(), &mut self.pm, self.c);
         measure(
             calls,
             || used(m.quiet(black_box(c), black_box(n))),
@@ -135,14 +135,14 @@ impl Sides {
 
     /// Quiet time on quiet time: each call has to wait for the controller that the one before it hands back.
     fn quiet_on(&mut self, calls: usize, n: u32) -> (f64, f64) {
-        let (m, pm, pc) = (&mut self.m, &mut self.pm, &mut self.pc);
+        let (m, pm, pc) = (&mut self.m.lent(), &mut self.pm, &mut self.pc);
         let mut c = self.c;
         measure(calls, || c = m.quiet(c, black_box(n)).controller, || used(plain::quiet(pc, pm, black_box(n))))
     }
 
     /// The same with the reference behind the library's boundary.
     fn quiet_across(&mut self, calls: usize, n: u32) -> (f64, f64) {
-        let (m, pm) = (&mut self.m, &mut self.pm);
+        let (m, pm) = (&mut self.m.lent(), &mut self.pm);
         let (mut c, mut pc) = (self.c, self.c);
         measure(calls, || c = m.quiet(c, black_box(n)).controller, || pc = quiet_across(pm, pc, black_box(n)).controller)
     }
@@ -154,7 +154,7 @@ impl Sides {
     }
 
     fn read(&mut self, calls: usize) -> (f64, f64) {
-        let (m, pm) = (&self.m, &self.pm);
+        let (m, pm) = (&self.m.lent(), &self.pm);
         measure(
             calls,
             || {

@@ -21,7 +21,7 @@ impl Run {
 
     fn hear(&mut self, f: ours::Controller) -> Answers {
         let (a, b) = self.two_lines();
-        let got = self.ours.hear(f, a, b);
+        let got = self.ours.lent().hear(f, a, b);
         let mut c = sides::controller(&f);
         let before = self.plain.ports.clone();
         let (refusal, reply) = match (&mut c, sides::hearing(&a), sides::hearing(&b)) {
@@ -40,7 +40,7 @@ impl Run {
 
     fn quiet(&mut self, f: ours::Controller) -> Answers {
         let n = self.bit_times();
-        let got = self.ours.quiet(f, n);
+        let got = self.ours.lent().quiet(f, n);
         let mut c = sides::controller(&f);
         let refusal = match &mut c {
             Some(c) => plain::quiet(c, &mut self.plain, n),
@@ -154,7 +154,7 @@ impl Run {
         let code = if self.random.once_in(20) { self.random.below(20) } else { self.random.below(5) };
         let sink = if self.random.once_in(30) { self.random.word() } else { self.random.flag() };
         let interrupt = if self.random.once_in(20) { self.random.word() } else { self.random.below(8) };
-        let got = self.ours.open(address, port, code, sink, interrupt);
+        let got = self.ours.lent().open(address, port, code, sink, interrupt);
         let refusal = match sink {
             0 | 1 => plain::open(&mut self.plain, address, port, code, sink == 1, interrupt),
             _ => away(&self.plain),
@@ -165,7 +165,7 @@ impl Run {
 
     fn close(&mut self) -> Answers {
         let address = self.address();
-        let got = self.ours.close(address);
+        let got = self.ours.lent().close(address);
         let refusal = plain::close(&mut self.plain, address);
         self.refusal(refusal);
         pair(got, refusal)
@@ -177,7 +177,7 @@ impl Run {
         let code = self.plain.ports.get(4 * port).copied().unwrap_or(0) >> 12;
         let size = if self.random.once_in(8) { self.random.below(40) as usize } else { plain::slave_size(code).unwrap_or(3) };
         let words: Vec<u16> = (0..size).map(|_| self.random.word()).collect();
-        let got = self.ours.write(address, &words);
+        let got = self.ours.lent().write(address, &words);
         let refusal = plain::write(&mut self.plain, address, &words);
         self.see("writes", refusal == 0);
         self.refusal(refusal);
@@ -191,7 +191,7 @@ impl Run {
         self.see("good", plain.value == 1);
         self.see("held", plain.value == 2);
         self.refusal(plain.refusal);
-        pair(self.ours.ask(address), plain)
+        pair(self.ours.lent().ask(address), plain)
     }
 
     fn fetch(&mut self) -> Answers {
@@ -201,7 +201,7 @@ impl Run {
         let mut plain = ours::Fetched { refusal, size: words.len() as u16, words: [0; 16] };
         plain.words[..words.len()].copy_from_slice(&words);
         self.see("fetched", !words.is_empty());
-        pair(self.ours.fetch(address), plain)
+        pair(self.ours.lent().fetch(address), plain)
     }
 
     fn checks(&mut self) -> Answers {
@@ -239,7 +239,7 @@ impl Run {
 
     /// Cleared areas, so that a run does not end in damage alone.
     fn mend(&mut self) -> Answers {
-        self.ours = ours::Areas::cleared();
+        self.ours = sides::Memory::cleared();
         self.plain = plain::Areas::zero();
         pair((), ())
     }

@@ -25,7 +25,7 @@ const ADDRESSES: [u16; 10] = [0, 1, 2, 3, 5, 9, 17, 2048, 4094, 4095];
 
 struct Run {
     random: Random,
-    ours: ours::Areas,
+    ours: sides::Memory,
     plain: plain::Areas,
     /// The library's controller as its last call gave it, and the reference's.
     flat: ours::Controller,
@@ -41,7 +41,7 @@ impl Run {
     fn new(seed: u64) -> Run {
         Run {
             random: Random::new(seed),
-            ours: ours::Areas::cleared(),
+            ours: sides::Memory::cleared(),
             plain: plain::Areas::zero(),
             flat: ours::Controller::reset(),
             controller: plain::Controller::fresh(),
@@ -187,7 +187,12 @@ impl Run {
 }
 
 fn number(position: usize, otherwise: u64) -> u64 {
-    std::env::args().nth(position).map_or(otherwise, |text| text.parse().expect("a number"))
+    std::env::args().nth(position).map_or(otherwise, |text| {
+        text.parse().unwrap_or_else(|_| {
+            eprintln!("usage: compare.sh [SEED [COUNT]], both decimal numbers; '{text}' is none");
+            std::process::exit(2)
+        })
+    })
 }
 
 fn main() {

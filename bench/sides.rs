@@ -105,11 +105,36 @@ pub fn asked(answer: plain::Answer) -> ours::Number {
     }
 }
 
+/// The areas that are lent to the library.
+#[derive(Clone)]
+pub struct Memory {
+    pub index: Vec<u16>,
+    pub ports: Vec<u16>,
+    pub page0: Vec<u16>,
+    pub page1: Vec<u16>,
+}
+
+impl Memory {
+    pub fn cleared() -> Memory {
+        let zeros = |length| vec![0; length];
+        Memory {
+            index: zeros(ours::INDEX_LENGTH),
+            ports: zeros(ours::PORTS_LENGTH),
+            page0: zeros(ours::PAGE_LENGTH),
+            page1: zeros(ours::PAGE_LENGTH),
+        }
+    }
+
+    pub fn lent(&mut self) -> ours::Areas<'_> {
+        ours::Areas { index: &mut self.index, ports: &mut self.ports, page0: &mut self.page0, page1: &mut self.page1 }
+    }
+}
+
 /// The library's areas as the reference's.
-pub fn areas(m: &ours::Areas) -> plain::Areas {
+pub fn areas(m: &Memory) -> plain::Areas {
     plain::Areas { index: m.index.clone(), ports: m.ports.clone(), page0: m.page0.clone(), page1: m.page1.clone() }
 }
 
-pub fn same_areas(m: &ours::Areas, r: &plain::Areas) -> bool {
+pub fn same_areas(m: &Memory, r: &plain::Areas) -> bool {
     m.index == r.index && m.ports == r.ports && m.page0 == r.page0 && m.page1 == r.page1
 }

@@ -12,8 +12,8 @@ enum { STACK = 1 << 18, PAINT = 0xA5 };
 static unsigned char stack[STACK] __attribute__((aligned(64)));
 static ucontext_t here, there;
 
-static uint16_t index_table[TOLVENDRUM_INDEX], port_words[TOLVENDRUM_PORTS], page0[TOLVENDRUM_PAGE], page1[TOLVENDRUM_PAGE];
-#define AREAS index_table, TOLVENDRUM_INDEX, port_words, TOLVENDRUM_PORTS, page0, TOLVENDRUM_PAGE, page1, TOLVENDRUM_PAGE
+static uint16_t index_table[TOLVENDRUM_INDEX_LENGTH], port_words[TOLVENDRUM_PORTS_LENGTH], page0[TOLVENDRUM_PAGE_LENGTH], page1[TOLVENDRUM_PAGE_LENGTH];
+#define AREAS index_table, TOLVENDRUM_INDEX_LENGTH, port_words, TOLVENDRUM_PORTS_LENGTH, page0, TOLVENDRUM_PAGE_LENGTH, page1, TOLVENDRUM_PAGE_LENGTH
 
 /* What the calls take and answer stands outside the painted stack, as far as C lets it. */
 static tolvendrum_controller c, waiting;

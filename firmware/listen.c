@@ -6,12 +6,12 @@
 #include <stdlib.h>
 
 /* The areas live as long as the program, and begin with all words zero. */
-static uint16_t index_table[TOLVENDRUM_INDEX];
-static uint16_t port_words[TOLVENDRUM_PORTS];
-static uint16_t page0[TOLVENDRUM_PAGE];
-static uint16_t page1[TOLVENDRUM_PAGE];
+static uint16_t index_table[TOLVENDRUM_INDEX_LENGTH];
+static uint16_t port_words[TOLVENDRUM_PORTS_LENGTH];
+static uint16_t page0[TOLVENDRUM_PAGE_LENGTH];
+static uint16_t page1[TOLVENDRUM_PAGE_LENGTH];
 
-#define AREAS index_table, TOLVENDRUM_INDEX, port_words, TOLVENDRUM_PORTS, page0, TOLVENDRUM_PAGE, page1, TOLVENDRUM_PAGE
+#define AREAS index_table, TOLVENDRUM_INDEX_LENGTH, port_words, TOLVENDRUM_PORTS_LENGTH, page0, TOLVENDRUM_PAGE_LENGTH, page1, TOLVENDRUM_PAGE_LENGTH
 
 enum { OIL = 1, PORT = 1, ONE_WORD = 0, SINK = 1, NO_INTERRUPT = 0, REPLY_TIME = 64 };
 

@@ -3,21 +3,13 @@
 #[path = "tolvendrum.rs"]
 mod tolvendrum;
 
-use tolvendrum::{Areas, Controller, Hearing, MASTER, SLAVE};
+use tolvendrum::{accepted, Areas, Controller, Hearing, Refusal, State, INDEX_LENGTH, MASTER, PAGE_LENGTH, PORTS_LENGTH, SINK, SLAVE};
 
 const OIL: u16 = 1;
 const PORT: u16 = 1;
 const ONE_WORD: u16 = 0;
-const SINK: u16 = 1;
 const NO_INTERRUPT: u16 = 0;
 const REPLY_TIME: u32 = 64;
-
-fn must(refusal: u16) {
-    if refusal != 0 {
-        println!("refused: {refusal}");
-        std::process::exit(1);
-    }
-}
 
 /// A frame of one word and its check byte, without quality marks.
 fn frame(kind: u16, word: u16, check: u8) -> Hearing {
@@ -28,36 +20,40 @@ fn frame(kind: u16, word: u16, check: u8) -> Hearing {
 }
 
 /// Both lines hear the same.
-fn hear(areas: &mut Areas, c: Controller, h: Hearing) -> Controller {
-    let r = areas.hear(c, h, h);
-    must(r.refusal);
-    r.controller
+fn hear(areas: &mut Areas, c: Controller, h: Hearing) -> Result<Controller, Refusal> {
+    Ok(areas.hear(c, h, h).accepted()?.0)
 }
 
-fn print_oil(areas: &Areas) {
-    let state = areas.ask(OIL);
-    must(state.refusal);
-    let f = areas.fetch(OIL);
-    must(f.refusal);
-    print!("oil temperature: {}", ["never", "good", "held"][state.value as usize]);
-    if f.size == 1 {
-        print!(", {}", f.words[0]);
+fn print_oil(areas: &Areas) -> Result<(), Refusal> {
+    let state = match areas.ask(OIL).state()? {
+        State::Never => "never",
+        State::Good => "good",
+        State::Held => "held",
+    };
+    match areas.fetch(OIL).words()? {
+        [value] => println!("oil temperature: {state}, {value}"),
+        _ => println!("oil temperature: {state}"),
     }
-    println!();
+    Ok(())
 }
 
-fn main() {
-    let mut areas = Areas::cleared();
+fn main() -> Result<(), Refusal> {
+    let mut areas = Areas {
+        index: &mut [0; INDEX_LENGTH],
+        ports: &mut [0; PORTS_LENGTH],
+        page0: &mut [0; PAGE_LENGTH],
+        page1: &mut [0; PAGE_LENGTH],
+    };
     let mut c = Controller::reset();
-    must(areas.open(OIL, PORT, ONE_WORD, SINK, NO_INTERRUPT));
-    print_oil(&areas);
+    accepted(areas.open(OIL, PORT, ONE_WORD, SINK, NO_INTERRUPT))?;
+    print_oil(&areas)?;
 
     let master = frame(MASTER, OIL, 0x34);
-    c = hear(&mut areas, c, master);
-    c = hear(&mut areas, c, frame(SLAVE, 2, 0xA1));
-    print_oil(&areas);
+    c = hear(&mut areas, c, master)?;
+    c = hear(&mut areas, c, frame(SLAVE, 2, 0xA1))?;
+    print_oil(&areas)?;
 
-    c = hear(&mut areas, c, master);
-    must(areas.quiet(c, REPLY_TIME).refusal);
-    print_oil(&areas);
+    c = hear(&mut areas, c, master)?;
+    areas.quiet(c, REPLY_TIME).accepted()?;
+    print_oil(&areas)
 }

@@ -1,40 +1,200 @@
-//! The bus controller for Rust: what tolvendrum.h declares, with its layouts and its words on each call.
+//! The bus controller for Rust: what tolvendrum.h declares, with its layouts and its words on each call. It needs `core` alone: what is kept
+//! between calls is the caller's, and the four areas are lent as slices.
+//!
+//! Each call answers the library's own struct of numbers; `accepted`, `state` and `words` make a `Result` of it.
 #![allow(dead_code)]
 
 macro_rules! flat {
-    ($($name:ident { $($field:ident : $type:ty),* $(,)? } $size:literal)*) => { $(
+    ($($(#[$words:meta])* $name:ident { $($(#[$note:meta])* $field:ident : $type:ty),* $(,)? } $size:literal)*) => { $(
+        $(#[$words])*
         #[repr(C)]
         #[derive(Clone, Copy, PartialEq, Debug, Default)]
-        pub struct $name { $(pub $field: $type),* }
-        const _: () = assert!(std::mem::size_of::<$name>() == $size);
+        pub struct $name { $($(#[$note])* pub $field: $type),* }
+        const _: () = assert!(core::mem::size_of::<$name>() == $size);
     )* };
 }
 
+// from the crates: structs
 flat! {
-    Exchange { stage: u16, word: u16 } 4
-    Times { since: u16, line: u16, chosen: u16, adopted: u16 } 8
-    Lines { laa: u16, rld: u16, ls: u16, slm: u16 } 8
-    Counts { fc: u16, ec: u16 } 4
-    Group { pending: u16, mask: u16, status: u16, frozen: u16 } 8
-    Device { address: u16, set: u16, status: u16 } 6
+    /// The exchange on the bus.
+    Exchange {
+        /// 0 idle, 1 waiting, 2 done
+        stage: u16,
+        /// the master word that is waited for, else 0
+        word: u16,
+    } 4
+    /// Times, in bit times.
+    Times {
+        /// since the last sound master frame or reset, counted up to 1950
+        since: u16,
+        /// the line count, below 2130
+        line: u16,
+        /// the reply time that the host chose
+        chosen: u16,
+        /// the reply time that the last sound master frame adopted
+        adopted: u16,
+    } 8
+    /// The two lines, each flag 0 or 1.
+    Lines {
+        /// line A active: 1 where line A is trusted, 0 where line B is
+        laa: u16,
+        /// redundant line disturbed: set by a failure, cleared by a status poll to us
+        rld: u16,
+        /// a line switch is filed
+        ls: u16,
+        /// single line mode: no rule switches or sets RLD
+        slm: u16,
+    } 8
+    /// Counts of frames.
+    Counts {
+        /// judged frames, modulo 65,536
+        fc: u16,
+        /// unsound ones, up to 65,535
+        ec: u16,
+    } 4
+    /// An interrupt group. Its unused bits are zero, and nothing is pending unless it is frozen.
+    Group {
+        /// bits raised while it is frozen
+        pending: u16,
+        /// 1 lets a bit through
+        mask: u16,
+        /// bits to be served
+        status: u16,
+        /// 0 or 1
+        frozen: u16,
+    } 8
+    /// Our device on the bus.
+    Device {
+        /// the device address, 0 to 4095
+        address: u16,
+        /// 1 once the host has set a status word
+        set: u16,
+        /// the status word, 0 unless set
+        status: u16,
+    } 6
+    /// The controller. Each part begins at a multiple of four words, so that a machine that copies the struct moves whole parts.
     Controller {
-        exchange: Exchange, counts: Counts, times: Times, lines: Lines, group0: Group, group1: Group, device: Device,
+        exchange: Exchange,
+        counts: Counts,
+        times: Times,
+        lines: Lines,
+        group0: Group,
+        group1: Group,
+        device: Device,
     } 46
+    /// What one line heard in an event. In silence and in noise the rest says nothing, but is tested.
     Hearing {
-        kind: u16, words: [u16; 16], size: u16, checks: [u8; 4], ends: u16, sqe: u16, violation: u16, alo: u16,
+        /// 0 silence, 1 noise, 2 master frame, 3 slave frame
+        kind: u16,
+        words: [u16; 16],
+        /// how many words, 0 to 16
+        size: u16,
+        checks: [u8; 4],
+        /// how many check bytes, 0 to 4
+        ends: u16,
+        /// the three quality marks, each 0 or 1
+        sqe: u16,
+        violation: u16,
+        alo: u16,
     } 48
-    Answered { controller: Controller, refusal: u16, reply: Hearing } 96
-    Told { controller: Controller, refusal: u16 } 48
-    Reading { controller: Controller, refusal: u16, value: u16 } 50
-    Number { refusal: u16, value: u16 } 4
-    Fetched { refusal: u16, size: u16, words: [u16; 16] } 36
-    Checks { count: u16, bytes: [u8; 4] } 6
+    /// What a bus event and quiet time answer.
+    Answered {
+        controller: Controller,
+        refusal: u16,
+        /// the slave frame that we send, or silence
+        reply: Hearing,
+    } 96
+    /// What a setting answers.
+    Told {
+        controller: Controller,
+        refusal: u16,
+    } 48
+    /// What a call on an interrupt group answers.
+    Reading {
+        controller: Controller,
+        refusal: u16,
+        /// what was read; 0 by a write
+        value: u16,
+    } 50
+    /// A number that was asked for.
+    Number {
+        refusal: u16,
+        /// 0 where refused
+        value: u16,
+    } 4
+    /// The words of a port.
+    Fetched {
+        refusal: u16,
+        /// how many words; 0 where asking refuses or answers never
+        size: u16,
+        /// zeros after them
+        words: [u16; 16],
+    } 36
+    /// The check bytes of a frame.
+    Checks {
+        /// how many; 0 for no words or more than 16
+        count: u16,
+        /// zeros after them
+        bytes: [u8; 4],
+    } 6
 }
+// end
 
-pub const INDEX: usize = 4096;
-pub const PORTS: usize = 1024;
-pub const PAGE: usize = 4096;
+// from the crates: numbers
+pub const AREA: u16 = 1;
+pub const RANGE: u16 = 2;
+pub const NOPORT: u16 = 3;
+pub const TAKEN: u16 = 4;
+pub const SIDE: u16 = 5;
+pub const DAMAGED: u16 = 6;
 
+pub const INDEX_LENGTH: usize = 4096;
+pub const PORTS_LENGTH: usize = 1024;
+pub const PAGE_LENGTH: usize = 4096;
+// end
+
+// from the crates: bits
+/// The bits of interrupt group 0; reading the vector gives 256 + the number of a bit.
+pub mod group0 {
+    pub const EMF: u16 = 0x8000;
+    pub const ESF: u16 = 0x4000;
+    pub const DMF: u16 = 0x2000;
+    pub const DSF: u16 = 0x1000;
+    pub const AMFX: u16 = 0x0800;
+    pub const MFC: u16 = 0x0400;
+    pub const SFC: u16 = 0x0200;
+    pub const RTI: u16 = 0x0100;
+    pub const BTI: u16 = 0x0080;
+    pub const DTI7: u16 = 0x0040;
+    pub const DTI6: u16 = 0x0020;
+    pub const DTI5: u16 = 0x0010;
+    pub const DTI4: u16 = 0x0008;
+    pub const DTI3: u16 = 0x0004;
+    pub const DTI2: u16 = 0x0002;
+    pub const DTI1: u16 = 0x0001;
+}
+/// The bits of interrupt group 1; reading the vector gives 256 + the number of a bit.
+pub mod group1 {
+    pub const TI2: u16 = 0x8000;
+    pub const XI3: u16 = 0x4000;
+    pub const XI2: u16 = 0x2000;
+    pub const XQE: u16 = 0x1000;
+    pub const RQE: u16 = 0x0800;
+    pub const XQ1C: u16 = 0x0400;
+    pub const XQ0C: u16 = 0x0200;
+    pub const RQC: u16 = 0x0100;
+    pub const FEV: u16 = 0x0080;
+    pub const TI1: u16 = 0x0004;
+    pub const XI1: u16 = 0x0002;
+    pub const XI0: u16 = 0x0001;
+}
+// end
+
+/// The sides of a port, as opening takes them.
+pub const SOURCE: u16 = 0;
+pub const SINK: u16 = 1;
+
+/// What a line heard.
 pub const SILENCE: u16 = 0;
 pub const NOISE: u16 = 1;
 pub const MASTER: u16 = 2;
@@ -75,13 +235,82 @@ extern "C" {
     fn tolvendrum_line(c: Controller, group: u16) -> Number;
 }
 
-/// The four areas, of any length: a call refuses another length than its own with 1.
-#[derive(Clone, PartialEq, Debug)]
-pub struct Areas {
-    pub index: Vec<u16>,
-    pub ports: Vec<u16>,
-    pub page0: Vec<u16>,
-    pub page1: Vec<u16>,
+/// A refusal, by document 01's number.
+#[derive(Clone, Copy, PartialEq, Eq, Debug)]
+pub enum Refusal {
+    Area = AREA as isize,
+    Range = RANGE as isize,
+    NoPort = NOPORT as isize,
+    Taken = TAKEN as isize,
+    Side = SIDE as isize,
+    Damaged = DAMAGED as isize,
+}
+
+/// What a number of a refusal says; 0 is none.
+pub fn accepted(number: u16) -> Result<(), Refusal> {
+    Err(match number {
+        0 => return Ok(()),
+        AREA => Refusal::Area,
+        RANGE => Refusal::Range,
+        NOPORT => Refusal::NoPort,
+        TAKEN => Refusal::Taken,
+        SIDE => Refusal::Side,
+        _ => Refusal::Damaged,
+    })
+}
+
+/// What asking answers of a port.
+#[derive(Clone, Copy, PartialEq, Eq, Debug)]
+pub enum State {
+    Never,
+    Good,
+    Held,
+}
+
+impl Answered {
+    /// The controller afterwards, and the slave frame that we send, if we do.
+    pub fn accepted(self) -> Result<(Controller, Option<Hearing>), Refusal> {
+        accepted(self.refusal).map(|()| (self.controller, (self.reply.kind == SLAVE).then_some(self.reply)))
+    }
+}
+
+impl Told {
+    pub fn accepted(self) -> Result<Controller, Refusal> {
+        accepted(self.refusal).map(|()| self.controller)
+    }
+}
+
+impl Reading {
+    /// The controller afterwards, and what was read.
+    pub fn accepted(self) -> Result<(Controller, u16), Refusal> {
+        accepted(self.refusal).map(|()| (self.controller, self.value))
+    }
+}
+
+impl Number {
+    pub fn accepted(self) -> Result<u16, Refusal> {
+        accepted(self.refusal).map(|()| self.value)
+    }
+
+    /// The state that was asked for.
+    pub fn state(self) -> Result<State, Refusal> {
+        self.accepted().map(|value| [State::Never, State::Good, State::Held][value as usize])
+    }
+}
+
+impl Fetched {
+    /// The words of the port; none where it was never filled.
+    pub fn words(&self) -> Result<&[u16], Refusal> {
+        accepted(self.refusal).map(|()| &self.words[..self.size as usize])
+    }
+}
+
+/// The four areas as they are lent, of any length: a call refuses another length than its own with 1. To begin with all words are zero.
+pub struct Areas<'a> {
+    pub index: &'a mut [u16],
+    pub ports: &'a mut [u16],
+    pub page0: &'a mut [u16],
+    pub page1: &'a mut [u16],
 }
 
 macro_rules! lend {
@@ -89,12 +318,8 @@ macro_rules! lend {
     ($v:expr) => { ($v.as_ptr(), $v.len()) };
 }
 
-// SAFETY of the calls: each pointer is lent with the length of its own slice, and the four areas are different vectors.
-impl Areas {
-    pub fn cleared() -> Areas {
-        Areas { index: vec![0; INDEX], ports: vec![0; PORTS], page0: vec![0; PAGE], page1: vec![0; PAGE] }
-    }
-
+// SAFETY of the calls: each pointer is lent with the length of its own slice, and the four areas are borrowed apart.
+impl Areas<'_> {
     pub fn open(&mut self, address: u16, port: u16, code: u16, sink: u16, interrupt: u16) -> u16 {
         let ((i, il), (p, pl), (z, zl), (o, ol)) = (lend!(mut self.index), lend!(mut self.ports), lend!(self.page0), lend!(self.page1));
         unsafe { tolvendrum_open(i, il, p, pl, z, zl, o, ol, address, port, code, sink, interrupt) }

@@ -5,7 +5,7 @@ ghost use Prim.Native.Nat.{_≤_};
 ghost use lib.ListN.{getD, set};
 ghost use Rattle.model.specs.Layout.{areasFit, wordsAt, withWords, flagsOf, worth, wordOf};
 ghost use Rattle.areas.specs.Lent.{lent};
-use choice::both;
+use logic::both;
 use model::Faults;
 use model::Flags;
 use model::Words;

@@ -7,6 +7,8 @@ use mathlib.Core.Option.{Option, none, some}
 use lib.Dec.{eqb, leb, ltb}
 use borrow.Author.Tests.{eqb-true, leb-true, leb-false, le-ltb, lt-ltb}
 use Rattle.frames.specs.declared.Hearing.{Hearing}
+use Rattle.frames.specs.declared.Judgement.{Judgement}
+use Rattle.frames.specs.declared.Judgement.the-variants.{Sound, Unsound as Bad}
 use Rattle.frames.specs.Hearing.{inRange}
 use Rattle.model.specs.declared.Controller.{Controller}
 use Rattle.model.specs.declared.Heard.{Heard}
@@ -15,18 +17,19 @@ use Rattle.model.specs.declared.Sought.the-variants.{Nothing, Damaged, Port}
 use Rattle.model.specs.Layout.{Areas, areas, areasFit, entry, portAt}
 use Rattle.model.specs.Ports.{codeOf, addressOf, hasPorts, wellFormed, seek, standingOf, apply}
 use Rattle.model.specs.Lines.{trusted, observed}
-use Rattle.model.specs.Event.{World, world, heardBy, silent, spoken}
+use Rattle.model.specs.Event.{World, world, heardBy, raisedByReply, silent, spoken}
 use Rattle.model.proofs.Tables.{answerOf, effectOf, controllerAfter}
 use Rattle.model.specs.Quiet.{ticks, dueWithin}
 use Rattle.model.specs.Calls.{Call, hear, quiet, neededFor, wordOfHeard, entryAbove, illFormed, refusal, effect, step, answer}
 use Rattle.model.specs.Calls.{Outcome, outcome}
 use Rattle.model.proofs.Tables.{hear-controller, hear-effect, hear-answer}
-use Rattle.timing.specs.Quiet.{dueIn}
-use Rattle.timing.proofs.Within.{due-in}
-use Rattle.answering.specs.declared.Met.{Met}
-use Rattle.answering.specs.Found.{withWord, soughtFor, soughtBy, sinkOf, standingAt}
-use Rattle.answering.specs.Need.{isDamaged, eventRefusal}
-use Rattle.answering.proofs.Ports.{sink-found, met-found, bits-found, indexed, taken-apart}
+use Rattle.bus_events.specs.Raised.{replyBits}
+use Rattle.bus_quiet.specs.Quiet.{dueIn}
+use Rattle.bus_quiet.proofs.Within.{due-in}
+use Rattle.bus_ports.specs.declared.Met.{Met}
+use Rattle.bus_ports.specs.Found.{withWord, soughtFor, soughtBy, sinkOf, interruptAt, standingAt}
+use Rattle.bus_ports.specs.Need.{isDamaged, eventRefusal}
+use Rattle.bus_ports.proofs.Ports.{sink-found, met-found, interrupt-found, indexed, taken-apart}
 use Rattle.bus.specs.Promise.{afterWith, acceptedWith}
 
 -- ---- the refusals
@@ -75,6 +78,12 @@ sixes false i = refl
 -- an outcome with another index table
 abbrev pub withIndex : List ℕ → Outcome → Outcome
 withIndex i o = record { refusal = o .refusal; reply = o .reply; world = world (o .world .controller) (indexed i (o .world .areas)) }
+
+-- a judged slave frame raises what the model says
+bits-found : (m : Areas) (w : ℕ) (j : Judgement)
+    → replyBits j (interruptAt (m .ports) (sinkOf (m .ports) (soughtFor (m .index) (m .ports) w))) ≡ raisedByReply m w j
+bits-found m w Sound = interrupt-found m w
+bits-found m w (Bad crc) = refl
 
 -- the event by what was heard: the index table is asked for what is sought alone
 accepted-heard : (c : Controller) (m : Areas) (h : Heard) (t o : Hearing)

@@ -5,9 +5,9 @@ use native.Mathlib.Omega.{arith}
 use Rattle.model.specs.declared.Controller.{Controller}
 use Rattle.model.specs.Event.{World, world}
 use Rattle.model.specs.Quiet.{tick, ticks}
-use Rattle.timing.specs.declared.Passed.{Passed}
-use Rattle.timing.specs.Jump.{jumped}
-use Rattle.timing.proofs.Jump.{left-at-most, jump-on}
+use Rattle.bus_quiet.specs.declared.Passed.{Passed}
+use Rattle.bus_quiet.specs.Jump.{jumped}
+use Rattle.bus_quiet.proofs.Jump.{left-at-most, jump-on}
 
 -- a jump leaves no more than there was
 pub left-less : (n : ℕ) (c : Controller) (j : Passed) → j ≡ jumped n c → j .left ≤ n

@@ -10,13 +10,17 @@ use Rattle.model.specs.Ports.{apply}
 use Rattle.model.specs.Event.{World, world, raiseAll}
 use Rattle.model.proofs.Tables.{timesAfter, linesAfter, countsAfter, raised1}
 use Rattle.model.specs.Calls.{Outcome}
-use Rattle.events.specs.Raised.{bits0}
-use Rattle.answering.specs.Found.{portOf, sinkOf, interruptAt, standingAt, metAs, effectBy}
+use Rattle.bus_events.specs.Raised.{bits0}
+use Rattle.bus_ports.specs.Found.{portOf, sinkOf, interruptAt, standingAt, metAs, effectBy}
 use Rattle.bus.specs.declared.Answered.{Answered}
 
 -- the outcome that an answer tells, with the areas afterwards
 abbrev pub asOutcome : Areas → Answered → Outcome
 asOutcome m r = record { refusal = r .refusal; reply = r .reply; world = world (r .controller) m }
+
+-- and the answer that an outcome tells
+abbrev pub asAnswered : Outcome → Answered
+asAnswered o = record { refusal = o .refusal; controller = o .world .controller; reply = o .reply }
 
 -- the controller after an event, with the exchange and the interrupt that the areas tell
 abbrev pub afterWith : Controller → Heard → Hearing → Hearing → Exchange → ℕ → Controller

@@ -8,24 +8,24 @@ ghost use Rattle.model.specs.Calls.{hear, quiet, outcome};
 ghost use Rattle.areas.specs.Lent.{lent};
 ghost use Rattle.bus.specs.Promise.{asOutcome, afterWith, acceptedWith};
 use crate::Answered;
-use answering::found;
-use answering::frame::silent;
-use answering::need::event_refusal;
-use answering::reply::meet_heard;
-use answering::take;
 use areas::layout;
-use choice::either;
+use bus_events::counts;
+use bus_events::heard;
+use bus_events::raised;
+use bus_ports::found;
+use bus_ports::frame::silent;
+use bus_ports::need::event_refusal;
+use bus_ports::reply::meet_heard;
+use bus_ports::take;
+use bus_quiet::passing;
+use bus_quiet::quiet;
 use constants::LAST_QUIET;
-use events::counts;
-use events::heard;
-use events::raised;
 use frames::Hearing;
+use logic::either;
 use model::Controller;
 use model::Exchange;
 use model::Heard;
 use model::Sought;
-use timing::passing;
-use timing::quiet;
 
 // The controller after an event: each part by what was heard.
 fn after(c: Controller, h: Heard, t: Hearing, o: Hearing, x: Exchange, interrupt: u16) -> Controller
@@ -97,7 +97,7 @@ pub fn hear(
 {
     let l = c.lines;
     let x = c.exchange;
-    let t = lines::trusted(l, a, b);
+    let t = bus_lines::trusted(l, a, b);
     let h = heard::heard(x, t);
     let s = found::sought_heard(index, ports, h);
     let fit = layout::fits(index, ports, page0, page1);
@@ -105,7 +105,7 @@ pub fn hear(
     let no = event_refusal(fit, out, s);
     let ok = no == 0;
     if ok {
-        let o = lines::observed(l, a, b);
+        let o = bus_lines::observed(l, a, b);
         return accept(ports, page0, page1, c, s, h, t, o);
     }
     Answered {

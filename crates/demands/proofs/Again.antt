@@ -6,17 +6,17 @@ use mathlib.Core.List.{List, [], _∷_, _++_}
 use Rattle.frames.specs.declared.Hearing.{Hearing}
 use Rattle.model.specs.Event.{World}
 use Rattle.model.specs.Host.{address, status, replyTime, slm, ls, clearEC, freshController, tell}
-use Rattle.model.specs.Calls.{Call, hear, quiet, openPort, closePort, writePort, refusal, Outcome, outcome, asked}
-use Rattle.model.specs.Past.{after, Typed, Accepted}
-use Rattle.ports.specs.Host.{hostCall}
-use Rattle.controller.specs.Groups.{reading0, reading1}
-use Rattle.controller.specs.Settings.{toldFor}
-use Rattle.bus.specs.declared.Answered.{Answered}
+use Rattle.model.specs.Calls.{Call, hear, quiet, openPort, closePort, writePort, refusal, outcome, asked}
+use Rattle.model.specs.Past.{after, Accepted}
+use Rattle.host_ports.specs.Host.{hostCall}
+use Rattle.host_controller.specs.Groups.{reading0, reading1}
+use Rattle.host_controller.specs.Settings.{toldFor}
+use Rattle.bus.specs.Promise.{asAnswered}
 use Rattle.demands.specs.Made.{Made, by-hear, by-quiet, by-open, by-close, by-write, by-ask, by-set-address, by-set-reply-time}
 use Rattle.demands.specs.Made.{by-set-status, by-set-slm, by-set-ls, by-clear-ec, by-reset, by-on-group0, by-on-group1}
 use Rattle.demands.specs.Made.{Ran, begun, accepted, refused}
 use Rattle.demands.proofs.OfCall.{number-exactly}
-use Rattle.demands.proofs.OfCode.{Run, ran}
+use Rattle.demands.proofs.OfCode.{ran}
 
 -- the code answers this call wherever it is accepted
 abbrev pub Callable : Call → Type 0
@@ -25,14 +25,9 @@ Callable c = (u : World) → refusal c u ≡ 0 → (q : Hearing) × ((v : World)
 zeroed : {u v : World} {c : Call} {n : ℕ} {q : Hearing} → refusal c u ≡ 0 → Made u c n q v → (q : Hearing) × ((v : World) × Made u c 0 q v)
 zeroed {u} {v} {c} {q = q} e m = (q, (v, subst (λ (k : ℕ). Made u c k q v) (number-exactly m ∙ e) m))
 
--- the answer that an outcome tells
-answered : Outcome → Answered
-answered o = record { refusal = o .refusal; controller = o .world .controller; reply = o .reply }
-
 pub again : {s t : World} {c : Call} {n : ℕ} {r : Hearing} → Made s c n r t → Callable c
-unfolding answered
-again (by-hear {a} {b} p) u e = let o = outcome (hear a b) u in zeroed e (by-hear {m = o .world .areas} {r = answered o} refl)
-again (by-quiet {n} p) u e = let o = outcome (quiet n) u in zeroed e (by-quiet {m = o .world .areas} {r = answered o} refl)
+again (by-hear {a} {b} p) u e = let o = outcome (hear a b) u in zeroed e (by-hear {m = o .world .areas} {r = asAnswered o} refl)
+again (by-quiet {n} p) u e = let o = outcome (quiet n) u in zeroed e (by-quiet {m = o .world .areas} {r = asAnswered o} refl)
 again (by-open {a} {p} {code} {sink} {i} eq) u e =
     let o = hostCall (openPort a p code sink i) (u .areas) in
     zeroed e (by-open {m = o .after} {n = o .number} refl)

@@ -1,32 +1,36 @@
 -- What each public function promises, as its contract says it, is a `Made`: the contract's own reading is cited, so that a promise that says
 -- less no longer gives the call. Assumes nothing.
-use mathlib.Core.Path.{_≡_}
+use mathlib.Core.Path.{_≡_, sym, _∙_}
+use mathlib.Core.Bool.{true}
+use lib.ListN.{getD}
 use denote.Ref.{now}
 use Rattle.model.specs.declared.Controller.{Controller}
-use Rattle.model.specs.Layout.{Areas}
+use Rattle.model.specs.Layout.{Areas, wordsAt, flagsOf}
 use Rattle.model.specs.Event.{world, silent}
 use Rattle.model.specs.Host.{address, status, replyTime, slm, ls, clearEC, reset, group0, group1}
-use Rattle.model.specs.Calls.{hear, quiet, openPort, closePort, writePort, readPort, setting, fetched, refusalOf}
-use Rattle.areas.specs.Lent.{lent}
-use Rattle.controller.specs.Groups.{callOf}
+use Rattle.model.specs.Calls.{hear, quiet, openPort, closePort, writePort, readPort, setting, portRefusal, asked, fetched, refusalOf}
+use Rattle.areas.specs.Lent.{lent, shown, validLent, Lies}
+use Rattle.areas.proofs.One.{OnePlace, one-place}
+use Rattle.host_controller.specs.Groups.{callOf}
+use Rattle.bus.specs.One.{One}
 use Rattle.demands.specs.Made.{Made, by-hear, by-quiet, by-open, by-close, by-write, by-ask, by-set-address, by-set-reply-time}
 use Rattle.demands.specs.Made.{by-set-status, by-set-slm, by-set-ls, by-clear-ec, by-reset, by-on-group0, by-on-group1}
 use Rattle.bus.proofs.calls.hear.Reads as hear-reads
 use Rattle.bus.proofs.calls.quiet.Reads as quiet-reads
-use Rattle.ports.proofs.calls.«open».Reads as open-reads
-use Rattle.ports.proofs.calls.close.Reads as close-reads
-use Rattle.ports.proofs.calls.write.Reads as write-reads
-use Rattle.ports.proofs.calls.ask.Reads as ask-reads
-use Rattle.ports.proofs.calls.fetch.Reads as fetch-reads
-use Rattle.controller.proofs.settings.set_address.Reads as set-address-reads
-use Rattle.controller.proofs.settings.set_status.Reads as set-status-reads
-use Rattle.controller.proofs.settings.set_reply_time.Reads as set-reply-time-reads
-use Rattle.controller.proofs.settings.set_slm.Reads as set-slm-reads
-use Rattle.controller.proofs.settings.set_ls.Reads as set-ls-reads
-use Rattle.controller.proofs.settings.clear_ec.Reads as clear-ec-reads
-use Rattle.controller.proofs.settings.reset.Reads as reset-reads
-use Rattle.controller.proofs.groups.on_group0.Reads as on-group0-reads
-use Rattle.controller.proofs.groups.on_group1.Reads as on-group1-reads
+use Rattle.host_ports.proofs.calls.«open».Reads as open-reads
+use Rattle.host_ports.proofs.calls.close.Reads as close-reads
+use Rattle.host_ports.proofs.calls.write.Reads as write-reads
+use Rattle.host_ports.proofs.calls.ask.Reads as ask-reads
+use Rattle.host_ports.proofs.calls.fetch.Reads as fetch-reads
+use Rattle.host_controller.proofs.settings.set_address.Reads as set-address-reads
+use Rattle.host_controller.proofs.settings.set_status.Reads as set-status-reads
+use Rattle.host_controller.proofs.settings.set_reply_time.Reads as set-reply-time-reads
+use Rattle.host_controller.proofs.settings.set_slm.Reads as set-slm-reads
+use Rattle.host_controller.proofs.settings.set_ls.Reads as set-ls-reads
+use Rattle.host_controller.proofs.settings.clear_ec.Reads as clear-ec-reads
+use Rattle.host_controller.proofs.settings.reset.Reads as reset-reads
+use Rattle.host_controller.proofs.groups.on_group0.Reads as on-group0-reads
+use Rattle.host_controller.proofs.groups.on_group1.Reads as on-group1-reads
 
 -- a call on the bus: index table, port words, page 0 and page 1, the controller, and what was heard on line A and on line B
 pub made-hear : (κs : _) (a : _) (r : _) (e : _) → hear-reads.Learnt κs a r e
@@ -66,6 +70,29 @@ module _ (c : Controller) where
 pub fetch-promised : (κs : _) (a : _) (r : _) (e : _) → fetch-reads.Learnt κs a r e → now r ≡ fetched (lent (a .0) (a .1 .0) (a .1 .1 .0) (a .1 .1 .1 .0)) (a .1 .1 .1 .1 .0)
 fetch-promised κs a r e p = p .0
 
+-- where words are shown, they lie in the valid page, in the port's place
+pub fetch-lies : (κs : _) (a : _) (r : _) (e : _) → fetch-reads.Learnt κs a r e
+    → let p = getD (now (a .0)) (a .1 .1 .1 .1 .0) 0 in
+    shown (asked (lent (a .0) (a .1 .0) (a .1 .1 .0) (a .1 .1 .1 .0)) (a .1 .1 .1 .1 .0)) ≡ true
+    → Lies r (validLent (a .1 .1 .0) (a .1 .1 .1 .0) (flagsOf (wordsAt (now (a .1 .0)) p .flags))) p
+fetch-lies κs a r e p = p .1
+
+-- so two results hold the same words, and where words are shown they lie in one place
+pub one-fetch : (κs : _) (a : _) (r s : _) (e f : _) → fetch-reads.Learnt κs a r e → fetch-reads.Learnt κs a s f
+    → let p = getD (now (a .0)) (a .1 .1 .1 .1 .0) 0 in
+    (now r ≡ now s)
+    × (shown (asked (lent (a .0) (a .1 .0) (a .1 .1 .0) (a .1 .1 .1 .0)) (a .1 .1 .1 .1 .0)) ≡ true
+    → OnePlace r s (validLent (a .1 .1 .0) (a .1 .1 .1 .0) (flagsOf (wordsAt (now (a .1 .0)) p .flags))) p)
+one-fetch κs a r s e f p q =
+    let port = getD (now (a .0)) (a .1 .1 .1 .1 .0) 0 in
+    let page = validLent (a .1 .1 .0) (a .1 .1 .1 .0) (flagsOf (wordsAt (now (a .1 .0)) port .flags)) in
+    (fetch-promised κs a r e p ∙ sym (fetch-promised κs a s f q), λ h. one-place r s page port (fetch-lies κs a r e p h) (fetch-lies κs a s f q h))
+
+-- asking answers document 01's number
+pub ask-number : (κs : _) (a : _) (r : _) (e : _) → ask-reads.Learnt κs a r e
+    → refusalOf r ≡ portRefusal (readPort (a .1 .1 .1 .1 .0)) (lent (a .0) (a .1 .0) (a .1 .1 .0) (a .1 .1 .1 .0))
+ask-number κs a r e p = p .1
+
 -- the host's settings, beside whatever areas there are
 module _ (m : Areas) where
   pub made-set-address : (κs : _) (a : _) (r : _) (e : _) → set-address-reads.Learnt κs a r e → Made (world (a .0) m) (setting (address (a .1 .0))) (r .refusal) silent (world (r .controller) m)
@@ -96,3 +123,10 @@ module _ (m : Areas) where
   pub made-on-group1 : (κs : _) (a : _) (r : _) (e : _) → on-group1-reads.Learnt κs a r e
       → Made (world (a .0) m) (setting (group1 (callOf (a .1 .0)))) 0 silent (world (r .controller) m)
   made-on-group1 κs a r e p = by-on-group1 (a .1 .0) p
+
+-- The promise of a call on a group allows one result alone: what was read is equal too, which `Made` leaves out.
+pub one-reading0 : One on-group0-reads.Learnt
+one-reading0 κs a r q e d x y = x ∙ sym y
+
+pub one-reading1 : One on-group1-reads.Learnt
+one-reading1 κs a r q e d x y = x ∙ sym y

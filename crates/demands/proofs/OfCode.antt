@@ -3,9 +3,9 @@
 use Prim.Native.Nat.{ℕ, _%_, _<_, min}
 use mathlib.Core.Path.{_≡_, refl, sym, _∙_, ap}
 use mathlib.Core.Logic.{_↔_, _⊎_}
-use mathlib.Core.Bool.{Bool, true, false}
+use mathlib.Core.Bool.{true, false}
 use mathlib.Core.List.{List, [], _∷_}
-use mathlib.Core.Option.{Option, none, some}
+use mathlib.Core.Option.{none, some}
 use lib.ListN.{length}
 use Rattle.frames.specs.declared.Hearing.{Hearing}
 use Rattle.frames.specs.Hearing.{wordsOf}
@@ -15,7 +15,7 @@ use Rattle.model.specs.declared.Answer.the-variants.{Never, Refused}
 use Rattle.model.specs.Layout.{Areas}
 use Rattle.model.specs.Ports.{codeOf, addressOf, hasPorts, Standing, standing, view}
 use Rattle.model.specs.Event.{World, interruptOf, raiseAll, spoken}
-use Rattle.model.specs.Calls.{Call, hear, step, answer, asked, fetched, start}
+use Rattle.model.specs.Calls.{Call, hear, step, answer, asked, refusalOf, fetched, start}
 use Rattle.model.specs.Past.{after, Typed, Accepted, onTrusted, firstWord, lastSettings, answers, Opening, openingOf, answersSince}
 use Rattle.model.specs.Past.{writesSince, lastOf, sourceTold, statusTold, replyIn, fillings, viewWith, toldView, shownWords, takenIf}
 use Rattle.model.specs.Past.{framesJudged, framesUnsound}
@@ -115,7 +115,7 @@ module _ {past : List Call} {s : World} (calls : Ran past s) where
 
   module _ (a : ℕ) (o : Opening) (stands : openingOf past a ≡ some o) where
     -- An open sink shows the words of the last sound slave frame that answered its master frame since it was opened, or that there
-    -- was none, and its fills are their number-exactly; a source those that the host wrote.
+    -- was none, and its fills are their number; a source those that the host wrote.
     pub sink-shows : o .sink ≡ true
         → let l = answersSince past a (o .word) in
         view (s .areas) a ≡ some (viewWith o (lastOf l) (length l % 65536))
@@ -126,9 +126,12 @@ module _ {past : List Call} {s : World} (calls : Ran past s) where
         view (s .areas) a ≡ some (viewWith o (lastOf l) (length l % 65536))
     source-shows k = rw (← same) (demand.source-shows past all a o stands k)
 
-    -- What `ask` and `fetch` answer: an empty port says that it is empty.
+    -- What `ask` and `fetch` answer: an open port is not refused, and an empty one says that it is empty.
     pub ask-never : (x : Answer) → x ≡ asked (s .areas) a → (x ≡ Never) ↔ (fillings past a o ≡ [])
     ask-never x e = rw (e, ← same) (demand.ask-never past all a o stands)
+
+    pub ask-open : (x : Answer) → x ≡ asked (s .areas) a → refusalOf x ≡ 0
+    ask-open x e = rw (e, ← same) (demand.ask-open past all a o stands)
 
     pub fetch-shows : (ws : List ℕ) → ws ≡ fetched (s .areas) a → ws ≡ shownWords (lastOf (fillings past a o))
     fetch-shows ws e = e ∙ rw (← same) (demand.fetch-shows past all a o stands)

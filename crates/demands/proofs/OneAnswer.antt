@@ -11,12 +11,12 @@ use Rattle.model.specs.Layout.{Areas}
 use Rattle.model.specs.Event.{World, world, silent}
 use Rattle.model.specs.Host.{Setting, settingOut, tell}
 use Rattle.model.specs.Calls.{Call, Outcome, outcomeOf, outcome, readPort, setting, refusal, step, effect, answer, freshOver, portRefusal}
-use Rattle.model.specs.Calls.{portAreas, asked, refusalOf}
-use Rattle.ports.specs.Host.{Out, out, hostCall}
-use Rattle.controller.specs.declared.Reading.{Reading}
-use Rattle.controller.specs.declared.Told.{Told}
-use Rattle.controller.specs.Groups.{reading0, reading1}
-use Rattle.controller.specs.Settings.{toldWith, toldFor}
+use Rattle.model.specs.Calls.{asked, refusalOf}
+use Rattle.host_ports.specs.Host.{Out, out, hostCall, portAreas}
+use Rattle.host_controller.specs.declared.Reading.{Reading}
+use Rattle.host_controller.specs.declared.Told.{Told}
+use Rattle.host_controller.specs.Groups.{reading0, reading1}
+use Rattle.host_controller.specs.Settings.{toldWith, toldFor}
 use Rattle.model.proofs.Reading.{asked-number}
 use Rattle.demands.specs.Made.{Made, by-hear, by-quiet, by-open, by-close, by-write, by-ask, by-set-address, by-set-reply-time}
 use Rattle.demands.specs.Made.{by-set-status, by-set-slm, by-set-ls, by-clear-ec, by-reset, by-on-group0, by-on-group1}
@@ -106,7 +106,8 @@ made-outcome {s} (by-reset e) = unranged s _ refl e
 made-outcome {s} (by-on-group0 k e) = unranged s _ refl (ap (λ (x : Reading). x .controller) e)
 made-outcome {s} (by-on-group1 k e) = unranged s _ refl (ap (λ (x : Reading). x .controller) e)
 
--- Two results that the promise of a call allows are equal: the number, the reply, and controller and areas afterwards.
+-- Two results that the promise of a call allows are equal: the number, the reply, and controller and areas afterwards. (What a call on a
+-- group reads is equal too: `one-reading0`, `one-reading1` of Bridge.antt.)
 pub one-answer : {s t u : World} {c : Call} {n k : ℕ} {r q : Hearing} → Made s c n r t → Made s c k q u
     → outcomeWith n r t ≡ outcomeWith k q u
 one-answer x y = sym (made-outcome x) ∙ made-outcome y

@@ -8,15 +8,15 @@ use Rattle.model.specs.declared.Answer.{Answer}
 use Rattle.model.specs.declared.Controller.{Controller}
 use Rattle.model.specs.Layout.{Areas}
 use Rattle.model.specs.Event.{World, world, silent}
-use Rattle.model.specs.Host.{Setting, address, status, replyTime, slm, ls, clearEC, reset, group0, group1, freshController, tell}
+use Rattle.model.specs.Host.{address, status, replyTime, slm, ls, clearEC, reset, group0, group1, freshController, tell}
 use Rattle.model.specs.Calls.{Call, hear, quiet, openPort, closePort, writePort, readPort, setting, outcome, asked, refusalOf, start}
 use Rattle.model.specs.Past.{Typed}
-use Rattle.ports.specs.Host.{out, hostCall}
-use Rattle.controller.specs.declared.GroupCall.{GroupCall}
-use Rattle.controller.specs.declared.Reading.{Reading}
-use Rattle.controller.specs.declared.Told.{Told}
-use Rattle.controller.specs.Groups.{callOf, reading0, reading1}
-use Rattle.controller.specs.Settings.{toldFor}
+use Rattle.host_ports.specs.Host.{out, hostCall}
+use Rattle.host_controller.specs.declared.GroupCall.{GroupCall}
+use Rattle.host_controller.specs.declared.Reading.{Reading}
+use Rattle.host_controller.specs.declared.Told.{Told}
+use Rattle.host_controller.specs.Groups.{callOf, reading0, reading1}
+use Rattle.host_controller.specs.Settings.{toldFor}
 use Rattle.bus.specs.declared.Answered.{Answered}
 use Rattle.bus.specs.Promise.{asOutcome}
 
@@ -28,7 +28,7 @@ pub data Made (s : World) : Call → ℕ → Hearing → World → Type 0 where
       → Made s (hear a b) (r .refusal) (r .reply) (world (r .controller) m)
   by-quiet : {n : ℕ} {m : Areas} {r : Answered} → asOutcome m r ≡ outcome (quiet n) s
       → Made s (quiet n) (r .refusal) (r .reply) (world (r .controller) m)
-  -- ports::calls; asking and fetching change nothing
+  -- host_ports::calls; asking and fetching change nothing
   by-open : {a p code : ℕ} {sink : Bool} {i : ℕ} {m : Areas} {n : ℕ} → out m n ≡ hostCall (openPort a p code sink i) (s .areas)
       → Made s (openPort a p code sink i) n silent (world (s .controller) m)
   by-close : {a : ℕ} {m : Areas} {n : ℕ} → out m n ≡ hostCall (closePort a) (s .areas)
@@ -36,7 +36,7 @@ pub data Made (s : World) : Call → ℕ → Hearing → World → Type 0 where
   by-write : {a : ℕ} {ws : List ℕ} {m : Areas} {n : ℕ} → out m n ≡ hostCall (writePort a ws) (s .areas)
       → Made s (writePort a ws) n silent (world (s .controller) m)
   by-ask : {a : ℕ} {x : Answer} → x ≡ asked (s .areas) a → Made s (readPort a) (refusalOf x) silent s
-  -- controller::settings
+  -- host_controller::settings
   by-set-address : {a : ℕ} {r : Told} → r ≡ toldFor (address a) (s .controller)
       → Made s (setting (address a)) (r .refusal) silent (world (r .controller) (s .areas))
   by-set-reply-time : {t : ℕ} {r : Told} → r ≡ toldFor (replyTime t) (s .controller)
@@ -47,7 +47,7 @@ pub data Made (s : World) : Call → ℕ → Hearing → World → Type 0 where
   by-set-ls : {b : Bool} {c : Controller} → c ≡ tell (ls b) (s .controller) → Made s (setting (ls b)) 0 silent (world c (s .areas))
   by-clear-ec : {c : Controller} → c ≡ tell clearEC (s .controller) → Made s (setting clearEC) 0 silent (world c (s .areas))
   by-reset : {c : Controller} → c ≡ freshController → Made s (setting reset) 0 silent (world c (s .areas))
-  -- controller::groups
+  -- host_controller::groups
   by-on-group0 : (k : GroupCall) {r : Reading} → r ≡ reading0 k (s .controller)
       → Made s (setting (group0 (callOf k))) 0 silent (world (r .controller) (s .areas))
   by-on-group1 : (k : GroupCall) {r : Reading} → r ≡ reading1 k (s .controller)

@@ -10,18 +10,17 @@ use Rattle.model.specs.Layout.{Areas}
 use Rattle.model.specs.Event.{world, silent}
 use Rattle.model.specs.Host.{Setting, settingOut, freshController, tell, group0, group1}
 use Rattle.model.specs.Calls.{Call, outcome}
-use Rattle.controller.specs.declared.GroupCall.{GroupCall}
-use Rattle.controller.specs.Settings.{toldFor, toldWith as answered}
-use Rattle.controller.specs.Groups.{callOf, reading0, reading1}
-use Rattle.flat.specs.declared.FlatController.{FlatController}
-use Rattle.flat.specs.Flags.{isBit, isSet}
-use Rattle.flat.specs.Controller.{flat, controllerOf, ours}
-use Rattle.flat.specs.Hearing.{flatHearing}
-use Rattle.firmware.specs.Promise.{answers, leaves, flatOutcome, away, through, flatTold, awayTold, setThrough, reading, flatReading}
+use Rattle.host_controller.specs.declared.GroupCall.{GroupCall}
+use Rattle.host_controller.specs.Settings.{toldFor, toldWith as answered}
+use Rattle.host_controller.specs.Groups.{callOf, reading0, reading1}
+use Rattle.firmware_layout.specs.declared.FlatController.{FlatController}
+use Rattle.firmware_layout.specs.Flags.{isBit, isSet}
+use Rattle.firmware_layout.specs.Controller.{flat, controllerOf, ours}
+use Rattle.firmware_layout.specs.Hearing.{flatHearing}
+use Rattle.firmware.specs.Promise.{answers, leaves, through, setThrough, flatReading}
 use Rattle.firmware.specs.Promise.{awayReading, readThrough}
-use Rattle.flat.specs.Kept.{Ours}
-use Rattle.flat.proofs.Inverse.{same-numbers}
-use Rattle.flat.proofs.Kept.{ours-taken, ours-kept, ours-fresh, ours-told}
+use Rattle.firmware_layout.proofs.Inverse.{same-numbers}
+use Rattle.firmware_layout.proofs.Kept.{ours-taken, ours-kept, ours-fresh, ours-told}
 
 -- ---- what is handed out is taken back
 

@@ -1,3 +1,4 @@
 pub mod Short
 pub mod Through
 pub mod Handed
+pub mod One

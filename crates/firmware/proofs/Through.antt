@@ -1,29 +1,73 @@
--- A call through the conversions, by whether its arguments are ours: then it is the model's outcome as numbers, else it is turned away.
--- Assumes nothing.
-use mathlib.Core.Path.{_≡_, refl}
-use mathlib.Core.Bool.{Bool, true, false}
+-- A call through the conversions, by what it is given: areas of their lengths and arguments of ours come to the model's outcome, as numbers;
+-- anything else is turned away. Assumes nothing.
+use Prim.Native.Nat.{ℕ}
+use mathlib.Core.Path.{_≡_, refl, sym, ap}
+use mathlib.Core.Bool.{Bool, true, false, _&&_, true≢false}
+use mathlib.Core.List.{List, [], _∷_}
+use Rattle.model.specs.declared.Answer.the-variants.{Refused}
 use Rattle.model.specs.declared.Controller.{Controller}
-use Rattle.model.specs.Layout.{Areas}
-use Rattle.model.specs.Event.{world}
-use Rattle.model.specs.Calls.{Call, Outcome, outcome}
-use Rattle.ports.specs.Host.{out, hostCall}
-use Rattle.flat.specs.declared.FlatController.{FlatController}
-use Rattle.flat.specs.Controller.{controllerOf}
+use Rattle.model.specs.Layout.{Areas, areasFit}
+use Rattle.model.specs.Event.{World, world}
+use Rattle.model.specs.Calls.{Call, readPort, Test, areaTest, tests, refusal, Outcome, outcomeOf, outcome, freshOver, portRefusal, asked, fetched}
+use Rattle.host_ports.specs.Host.{out, portAreas, hostCall}
+use Rattle.firmware_layout.specs.declared.FlatController.{FlatController}
+use Rattle.firmware_layout.specs.Controller.{controllerOf, ours}
 use Rattle.firmware.specs.Promise.{awayNumber, flatOutcome, away, through, openThrough}
+use Rattle.firmware_layout.proofs.Inverse.{same-numbers}
 
-pub taken : (b : Bool) (c : Call) (x : Controller) (f : FlatController) (m : Areas) (o : Outcome) → b ≡ true → x ≡ controllerOf f
-    → o ≡ outcome c (world x m) → flatOutcome o ≡ through b c f m
+-- ---- an area of another length: a call that tests the lengths first is refused with 1
+
+unfit : (c : Call) (ts : List Test) (s : World) → tests c s ≡ (areaTest (s .areas) ∷ ts) → areasFit (s .areas) ≡ false → refusal c s ≡ 1
+unfolding refusal
+unfit c ts s e f = rw (e, f)
+
+-- so is a call of the host's, which then leaves the areas
+pub host-unfit : (c : Call) (ts : List Test) (m : Areas) → tests c (freshOver m) ≡ (areaTest m ∷ ts) → areasFit m ≡ false → out m 1 ≡ hostCall c m
+unfolding hostCall portAreas portRefusal outcome
+host-unfit c ts m e f = ap (λ (n : ℕ). out (outcomeOf n c (freshOver m) .world .areas) n) (sym (unfit c ts (freshOver m) e f))
+
+-- and reading, which then shows nothing
+pub asked-unfit : (m : Areas) (a : ℕ) → areasFit m ≡ false → asked m a ≡ Refused 1
+unfolding asked portRefusal
+asked-unfit m a f = rw (unfit (readPort a) _ (freshOver m) refl f)
+
+pub fetched-unfit : (m : Areas) (a : ℕ) → areasFit m ≡ false → fetched m a ≡ []
+unfolding fetched
+fetched-unfit m a f = rw (asked-unfit m a f)
+
+-- ---- by what is given
+
+pub first-of-three : (a b c : Bool) → (a && b && c) ≡ true → a ≡ true
+first-of-three true b c e = refl
+first-of-three false b c e = absurd (true≢false (sym e))
+
+-- both tests hold
+pub taken : (fit given : Bool) (c : Call) (x : Controller) (f : FlatController) (m : Areas) (o : Outcome) → (fit && given) ≡ true
+    → x ≡ controllerOf f → o ≡ outcome c (world x m) → flatOutcome o ≡ through given c f m
 unfolding through
-taken b c x f m o eb ex eo = rw (eb, eo, ex)
+taken true true c x f m o eb ex eo = rw (eo, ex)
+taken true false c x f m o eb ex eo = absurd (true≢false (sym eb))
+taken false given c x f m o eb ex eo = absurd (true≢false (sym eb))
 
-pub turned : (b : Bool) (c : Call) (f : FlatController) (m : Areas) → b ≡ false → away f m ≡ through b c f m
-unfolding through
-turned b c f m eb = rw eb
+-- or one does not
+pub turned : (fit given : Bool) (c : Call) (ts : List Test) (f : FlatController) (m : Areas) → (fit && given) ≡ false → fit ≡ areasFit m
+    → (given ≡ true → ours f ≡ true) → tests c (world (controllerOf f) m) ≡ (areaTest m ∷ ts) → away f m ≡ through given c f m
+unfolding through outcome
+turned true true c ts f m eb ef own e = absurd (true≢false eb)
+turned true false c ts f m eb ef own e = refl
+turned false true c ts f m eb ef own e = rw (unfit c ts (world (controllerOf f) m) e (sym ef), sym ef, same-numbers f (own refl))
+turned false false c ts f m eb ef own e = refl
 
-pub opened : (b : Bool) (c : Call) (m : Areas) → b ≡ true → hostCall c m ≡ openThrough b c m
+pub opened : (fit given : Bool) (c : Call) (m : Areas) → (fit && given) ≡ true → hostCall c m ≡ openThrough given c m
 unfolding openThrough
-opened b c m eb = rw eb
+opened true true c m eb = refl
+opened true false c m eb = absurd (true≢false (sym eb))
+opened false given c m eb = absurd (true≢false (sym eb))
 
-pub not-opened : (b : Bool) (c : Call) (m : Areas) → b ≡ false → out m (awayNumber m) ≡ openThrough b c m
+pub not-opened : (fit given : Bool) (c : Call) (ts : List Test) (m : Areas) → (fit && given) ≡ false → fit ≡ areasFit m
+    → tests c (freshOver m) ≡ (areaTest m ∷ ts) → out m (awayNumber m) ≡ openThrough given c m
 unfolding openThrough
-not-opened b c m eb = rw eb
+not-opened true true c ts m eb ef e = absurd (true≢false eb)
+not-opened true false c ts m eb ef e = refl
+not-opened false true c ts m eb ef e = rw (sym ef) (host-unfit c ts m e (sym ef))
+not-opened false false c ts m eb ef e = refl

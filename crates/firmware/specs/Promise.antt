@@ -1,5 +1,5 @@
--- What the exported calls answer and leave: the outcomes of the crates `model` and `controller`, through the conversions; and what is
--- turned away before it comes to a call. Assumes nothing.
+-- What the exported calls answer and leave: the outcomes of the crates `model` and `host_controller`, through the conversions; and what
+-- is turned away before it comes to a call. Assumes nothing.
 use Prim.Native.Nat.{ℕ}
 use mathlib.Core.Bool.{Bool, cond, _&&_}
 use mathlib.Core.List.{List}
@@ -13,23 +13,23 @@ use Rattle.model.specs.Layout.{Areas, areasFit}
 use Rattle.model.specs.Event.{world, padded, silent}
 use Rattle.model.specs.Host.{Setting}
 use Rattle.model.specs.Calls.{Call, Outcome, outcome, asked, fetched, refusalOf}
-use Rattle.controller.specs.declared.GroupCall.{GroupCall}
-use Rattle.controller.specs.declared.Reading.{Reading}
-use Rattle.controller.specs.declared.Told.{Told}
-use Rattle.controller.specs.Settings.{toldFor}
-use Rattle.controller.specs.Groups.{reading0, reading1}
-use Rattle.ports.specs.Host.{Out, out, hostCall}
-use Rattle.flat.specs.declared.FlatController.{FlatController}
-use Rattle.flat.specs.declared.FlatHearing.{FlatHearing}
+use Rattle.host_controller.specs.declared.GroupCall.{GroupCall}
+use Rattle.host_controller.specs.declared.Reading.{Reading}
+use Rattle.host_controller.specs.declared.Told.{Told}
+use Rattle.host_controller.specs.Settings.{toldFor}
+use Rattle.host_controller.specs.Groups.{reading0, reading1}
+use Rattle.host_ports.specs.Host.{Out, out, hostCall}
+use Rattle.firmware_layout.specs.declared.FlatController.{FlatController}
+use Rattle.firmware_layout.specs.declared.FlatHearing.{FlatHearing}
 use Rattle.firmware.specs.declared.FlatAnswered.{FlatAnswered}
 use Rattle.firmware.specs.declared.FlatTold.{FlatTold}
 use Rattle.firmware.specs.declared.FlatReading.{FlatReading}
 use Rattle.firmware.specs.declared.Number.{Number}
 use Rattle.firmware.specs.declared.Fetched.{Fetched}
 use Rattle.firmware.specs.declared.FlatChecks.{FlatChecks}
-use Rattle.flat.specs.Flags.{isBit, isSet}
-use Rattle.flat.specs.Controller.{flat, controllerOf, ours}
-use Rattle.flat.specs.Hearing.{flatHearing}
+use Rattle.firmware_layout.specs.Flags.{isBit, isSet}
+use Rattle.firmware_layout.specs.Controller.{flat, controllerOf, ours}
+use Rattle.firmware_layout.specs.Hearing.{flatHearing}
 
 -- ---- calls that are lent the areas: an argument out of range is 2, after 1 where an area has another length
 

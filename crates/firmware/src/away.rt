@@ -3,9 +3,9 @@ ghost use mathlib.Core.Path.{_≡_};
 ghost use Rattle.areas.specs.Lent.{lent};
 ghost use Rattle.firmware.specs.Promise.{awayNumber};
 use areas::layout;
-use choice::pick;
 use constants::AREA;
 use constants::RANGE;
+use logic::pick;
 
 pub fn away_number(index: &[u16], ports: &[u16], page0: &[u16], page1: &[u16]) -> u16
     ensures { λ r. ⌜ r ≡ awayNumber (lent (index .entry) (ports .entry) (page0 .entry) (page1 .entry)) ⌝ }

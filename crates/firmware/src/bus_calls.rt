@@ -5,21 +5,23 @@ ghost use Prim.Native.Nat.{_≤_};
 ghost use Rattle.model.specs.Event.{silent};
 ghost use Rattle.model.specs.Calls.{hear, quiet};
 ghost use Rattle.areas.specs.Lent.{lent};
-ghost use Rattle.flat.specs.Controller.{flat, ours};
-ghost use Rattle.flat.specs.Hearing.{flatHearing, hearingOf, formed};
+ghost use Rattle.firmware_layout.specs.Controller.{flat, ours};
+ghost use Rattle.firmware_layout.specs.Hearing.{flatHearing, hearingOf, formed};
 ghost use Rattle.firmware.specs.Promise.{answers, leaves, through, flatChecks};
 use crate::FlatAnswered;
 use crate::FlatChecks;
 use crate::away::away_number;
 use crate::given;
 use crate::reply;
-use answering::frame;
+use areas::layout;
 use bus::Answered;
 use bus::calls;
-use flat::FlatController;
-use flat::FlatHearing;
-use flat::hearing;
-use flat::state;
+use bus_ports::frame;
+use firmware_layout::FlatController;
+use firmware_layout::FlatHearing;
+use firmware_layout::hearing;
+use firmware_layout::state;
+use logic::both;
 
 fn flat_answered(r: Answered) -> FlatAnswered
     requires { ⌜ (r .reply .size ≤ 16) × (r .reply .ends ≤ 4) ⌝ }
@@ -62,7 +64,10 @@ pub extern "C" fn tolvendrum_hear(
         (lent (index .entry) (ports .entry) (page0 .entry) (page1 .entry))
         ⌝ }
 {
-    let given = given::with_hearings(c, a, b);
+    let given = both(
+        layout::fits(index, ports, page0, page1),
+        given::with_hearings(c, a, b),
+    );
     if given {
         let x = state::controller_of(c);
         let on_a = hearing::hearing_of(a);
@@ -87,7 +92,7 @@ pub extern "C" fn tolvendrum_quiet(
         through (ours c) (quiet n) c (lent (index .entry) (ports .entry) (page0 .entry) (page1 .entry))
         ⌝ }
 {
-    let given = state::is_ours(c);
+    let given = both(layout::fits(index, ports, page0, page1), state::is_ours(c));
     if given {
         let x = state::controller_of(c);
         return flat_answered(calls::quiet(index, ports, page0, page1, x, n));

@@ -1,18 +1,21 @@
 // The host's calls on ports (document 01, "Host calls on ports"). The number of a refusal comes back, 0 where the call was accepted.
 ghost use mathlib.Core.Path.{_≡_};
-ghost use Rattle.model.specs.Calls.{openPort, closePort, writePort, asked, refusalOf};
+ghost use Rattle.model.specs.Calls.{openPort, closePort, writePort, asked, fetched, refusalOf};
 ghost use Rattle.areas.specs.Lent.{lent};
-ghost use Rattle.ports.specs.Host.{out, hostCall};
-ghost use Rattle.flat.specs.Flags.{isBit, isSet};
+ghost use Rattle.host_ports.specs.Host.{out, hostCall};
+ghost use Rattle.firmware_layout.specs.Flags.{isBit, isSet};
 ghost use Rattle.firmware.specs.Promise.{openThrough, answerNumber, fetching};
 use crate::Fetched;
 use crate::Number;
 use crate::away::away_number;
+use areas::layout;
 use areas::store;
-use flat::flags::is_bit;
-use flat::flags::is_set;
+use constants::AREA;
+use firmware_layout::flags::is_bit;
+use firmware_layout::flags::is_set;
+use host_ports::calls;
+use logic::both;
 use model::Answer;
-use ports::calls;
 
 // Opens port p at address a, as a sink (1) or a source (0) of this F-code, with a data transfer interrupt or 0.
 #[no_mangle]
@@ -33,7 +36,7 @@ pub extern "C" fn tolvendrum_open(
         (lent (index .entry) (ports .entry) (page0 .entry) (page1 .entry))
         ⌝ }
 {
-    let given = is_bit(sink);
+    let given = both(layout::fits(index, ports, page0, page1), is_bit(sink));
     if given {
         return calls::open(
             index,
@@ -64,7 +67,11 @@ pub extern "C" fn tolvendrum_close(
         hostCall (closePort a) (lent (index .entry) (ports .entry) (page0 .entry) (page1 .entry))
         ⌝ }
 {
-    calls::close(index, ports, page0, page1, a)
+    let fit = layout::fits(index, ports, page0, page1);
+    if fit {
+        return calls::close(index, ports, page0, page1, a);
+    }
+    AREA
 }
 
 // Writes to the source at address a, in its exact size.
@@ -82,7 +89,11 @@ pub extern "C" fn tolvendrum_write(
         hostCall (writePort a (now (words .entry))) (lent (index .entry) (ports .entry) (page0 .entry) (page1 .entry))
         ⌝ }
 {
-    calls::write(index, ports, page0, page1, a, words)
+    let fit = layout::fits(index, ports, page0, page1);
+    if fit {
+        return calls::write(index, ports, page0, page1, a, words);
+    }
+    AREA
 }
 
 fn answer_number(x: Answer) -> Number
@@ -108,6 +119,17 @@ fn answer_number(x: Answer) -> Number
     }
 }
 
+// What asking answers; an area of another length is refused before anything is read of it.
+fn ask(index: &[u16], ports: &[u16], page0: &[u16], page1: &[u16], a: u16) -> Answer
+    ensures { λ r. ⌜ r ≡ asked (lent (index .entry) (ports .entry) (page0 .entry) (page1 .entry)) a ⌝ }
+{
+    let fit = layout::fits(index, ports, page0, page1);
+    if fit {
+        return calls::ask(index, ports, page0, page1, a);
+    }
+    Answer::Refused(AREA)
+}
+
 // Asks for the state of the port at address a: 0 never, 1 good, 2 held.
 #[no_mangle]
 pub extern "C" fn tolvendrum_ask(
@@ -119,7 +141,7 @@ pub extern "C" fn tolvendrum_ask(
 ) -> Number
     ensures { λ r. ⌜ r ≡ answerNumber (asked (lent (index .entry) (ports .entry) (page0 .entry) (page1 .entry)) a) ⌝ }
 {
-    answer_number(calls::ask(index, ports, page0, page1, a))
+    answer_number(ask(index, ports, page0, page1, a))
 }
 
 // The number of a refusal, 0 for any other answer.
@@ -127,6 +149,17 @@ fn refusal_of(x: Answer) -> u16
     ensures { λ r. ⌜ r ≡ refusalOf x ⌝ }
 {
     answer_number(x).refusal
+}
+
+// The valid words of the port at address a, and none where an area has another length.
+fn part<'a>(index: &[u16], ports: &[u16], page0: &'a [u16], page1: &'a [u16], a: u16) -> &'a [u16]
+    ensures { λ r. ⌜ now r ≡ fetched (lent (index .entry) (ports .entry) (page0 .entry) (page1 .entry)) a ⌝ }
+{
+    let fit = layout::fits(index, ports, page0, page1);
+    if fit {
+        return calls::fetch(index, ports, page0, page1, a);
+    }
+    &page0[..0]
 }
 
 // The valid words of the port at address a, copied out; none exactly when asking refuses or answers never.
@@ -140,8 +173,8 @@ pub extern "C" fn tolvendrum_fetch<'a>(
 ) -> Fetched
     ensures { λ r. ⌜ r ≡ fetching (lent (index .entry) (ports .entry) (page0 .entry) (page1 .entry)) a ⌝ }
 {
-    let refusal = refusal_of(calls::ask(index, ports, page0, page1, a));
-    let part = calls::fetch(index, ports, page0, page1, a);
+    let refusal = refusal_of(ask(index, ports, page0, page1, a));
+    let part = part(index, ports, page0, page1, a);
     let mut words = [0u16; 16];
     store::copy(&mut words, 0, part);
     Fetched {

@@ -1,10 +1,10 @@
 // A reply on its way out.
 ghost use mathlib.Core.Path.{_≡_};
 ghost use Prim.Native.Nat.{_≤_};
-ghost use Rattle.flat.specs.Hearing.{flatHearing};
-use flat::FlatHearing;
-use flat::flags::bit_of;
-use flat::hearing::kind_number;
+ghost use Rattle.firmware_layout.specs.Hearing.{flatHearing};
+use firmware_layout::FlatHearing;
+use firmware_layout::flags::bit_of;
+use firmware_layout::hearing::kind_number;
 use frames::Hearing;
 
 // A hearing that has at most 16 words and 4 check bytes, as each of our replies has.

@@ -2,18 +2,18 @@
 ghost use mathlib.Core.Path.{_≡_};
 ghost use mathlib.Core.Bool.{cond, _&&_};
 ghost use Rattle.model.specs.Host.{freshController, address, status, replyTime, slm, ls, clearEC};
-ghost use Rattle.controller.specs.Settings.{toldWith};
-ghost use Rattle.flat.specs.Flags.{isBit, isSet};
-ghost use Rattle.flat.specs.Controller.{flat, ours};
+ghost use Rattle.host_controller.specs.Settings.{toldWith};
+ghost use Rattle.firmware_layout.specs.Flags.{isBit, isSet};
+ghost use Rattle.firmware_layout.specs.Controller.{flat, ours};
 ghost use Rattle.firmware.specs.Promise.{flatTold, awayTold, setThrough};
 use crate::FlatTold;
 use crate::given;
 use constants::RANGE;
-use controller::Told;
-use controller::settings;
-use flat::FlatController;
-use flat::flags::is_set;
-use flat::state;
+use firmware_layout::FlatController;
+use firmware_layout::flags::is_set;
+use firmware_layout::state;
+use host_controller::Told;
+use host_controller::settings;
 use model::Controller;
 
 // A fresh controller.

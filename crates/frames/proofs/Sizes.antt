@@ -1,6 +1,6 @@
 -- Laws of the sizes by F-code: the code's table of numbers gives the defined sizes, and none is above 16. Assumes nothing.
 use mathlib.Core.Option.{Option, none, some}
-use mathlib.Core.Path.{_≡_, refl, sym, ap, subst}
+use mathlib.Core.Path.{_≡_, refl, sym, _∙_, ap, subst}
 use mathlib.Core.List.{List, [], _∷_, map}
 use Prim.Native.Nat.{ℕ, zero, suc, _≤_}
 use native.Mathlib.Omega.{arith}
@@ -8,6 +8,7 @@ use lib.ListN.{getD, List·getD-map}
 use Rattle.frames.specs.declared.Expected.{Expected}
 use Rattle.frames.specs.declared.Expected.the-variants.{Words, NoReply}
 use Rattle.frames.specs.Size.{sizes, expectedOf, wordsSaid}
+use Rattle.frames.proofs.reply_size.Reads as reply-size-reads
 
 -- an entry of a table of numbers, in which 0 says that no reply is expected
 abbrev pub entry : ℕ → Option ℕ
@@ -46,9 +47,13 @@ pub longest : (code n : ℕ) → expectedOf code ≡ some n → n ≤ 16
 unfolding expectedOf sizes
 longest code n e = subst Fit e (fit-at sizes code (omega arith))
 
--- two answers of `reply_size` that say the same are the same: its promise allows one result alone
+-- two answers of `reply_size` that say the same are the same
 pub one-size : (x y : Expected) → wordsSaid x ≡ wordsSaid y → x ≡ y
 one-size (Words a) (Words b) e = let p : a ≡ b = cc in ap Words p
 one-size (Words a) NoReply e = let z : _≡_ {A = ℕ} 0 1 = cc in absurd (omega arith)
 one-size NoReply (Words b) e = let z : _≡_ {A = ℕ} 0 1 = cc in absurd (omega arith)
 one-size NoReply NoReply e = refl
+
+-- so its contract, as it stands, allows one result alone
+pub one-reply-size : (κs : _) (a : _) (r s : _) (e f : _) → reply-size-reads.Learnt κs a r e → reply-size-reads.Learnt κs a s f → r ≡ s
+one-reply-size κs a r s e f p q = one-size r s (p ∙ sym q)

@@ -2,7 +2,7 @@
 -- each byte right. Assumes nothing.
 use mathlib.Core.Option.{Option, none, some}
 use Prim.Native.Nat.{ℕ}
-use mathlib.Core.Bool.{Bool, false, cond, not, _&&_, _||_}
+use mathlib.Core.Bool.{Bool, true, false, cond, not, _&&_, _||_}
 use mathlib.Core.List.{List}
 use lib.Dec.{eqb, leb}
 use lib.ListN.{length, getD}
@@ -28,6 +28,10 @@ checksRight ws cs = rightAt ws cs 0 && rightAt ws cs 1 && rightAt ws cs 2 && rig
 -- sound: no quality mark, counts right and checks right; else CRC tells that counts are right and a check byte is wrong
 abbrev pub verdict : Bool → Bool → Bool → Judgement
 verdict marks counts checks = cond (not marks && counts && checks) Sound (Unsound (counts && not checks))
+
+abbrev pub isSound : Judgement → Bool
+isSound Sound = true
+isSound (Unsound crc) = false
 
 -- a frame that is to have n words
 unfoldable pub judged : ℕ → Hearing → Judgement

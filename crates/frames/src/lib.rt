@@ -4,8 +4,8 @@
 // Promised for all inputs: a hearing is in range, a reply has a size and a frame is judged as specs/Hearing.antt, specs/Size.antt and
 // specs/Judge.antt define. Nothing is asked of the caller: a hearing with more words or check bytes than it can hold is out of range,
 // and unsound where it is judged all the same.
-use choice::both;
-use choice::either;
+use logic::both;
+use logic::either;
 ghost use mathlib.Core.Path.{_≡_};
 ghost use mathlib.Core.Bool.{true, _||_};
 ghost use lib.Dec.{eqb, leb};

@@ -1,4 +1,4 @@
--- In a shape no damaged entry or port words are met, and what one of two alike worlds accepts the other accepts. Assumes nothing.
+-- In a shape no damaged entry or port words are met, and two alike worlds answer every call with the same number. Assumes nothing.
 use Prim.Native.Nat.{ℕ, _≤_, _<_}
 use mathlib.Core.Path.{_≡_, refl, sym, _∙_, ap}
 use mathlib.Core.Logic.{_⊎_, inl, inr}
@@ -7,19 +7,18 @@ use mathlib.Core.List.{List, [], _∷_}
 use mathlib.Core.Option.{Option, none, some}
 use native.Mathlib.Omega.{arith}
 use lib.Dec.{eqb, ltb}
-use borrow.Author.Tests.{eqb-true, eqb-false, eq-eqb, ne-eqb, not-false, le-ltb}
+use borrow.Author.Tests.{eqb-true, eqb-false, eq-eqb, ne-eqb, le-ltb}
 use Rattle.frames.specs.Hearing.{inRange}
 use Rattle.model.specs.Layout.{Areas, areasFit, entry, portAt, flagsOf}
 use Rattle.model.specs.Ports.{addressOf, wellFormed, Standing, standingOf, standing}
 use Rattle.model.specs.Event.{World, heardBy}
 use Rattle.model.specs.Quiet.{dueWithin}
-use Rattle.model.specs.Calls.{Call, hear, quiet, openPort, closePort, writePort, readPort, setting, outOfRange, noPort, isTaken}
-use Rattle.model.specs.Calls.{wrongSide, wrongSize, TestName, refusalNumber, Test, entryAbove, illFormed, sideTest, sizeTest}
+use Rattle.model.specs.Calls.{Call, hear, quiet, openPort, closePort, writePort, readPort, setting}
+use Rattle.model.specs.Calls.{refusalNumber, Test, entryAbove, illFormed, sideTest, sizeTest}
 use Rattle.model.specs.Calls.{openOut, neededFor, wordOfHeard, atPort, onBus, tests, firstOf, refusal, Silent}
 use Rattle.model.proofs.Shape.{Shape, Leads}
 use Rattle.model.proofs.Formed.{formed-used}
-use Rattle.model.proofs.Refused.{holds, accepted, accepts}
-use Rattle.model.proofs.Accepted.{neither, open-range, open-at}
+use Rattle.model.proofs.Accepted.{open-range, open-at}
 use Rattle.model.proofs.Same.{Alike, same-entry}
 
 -- ---- no damaged entry or port words are met in a shape
@@ -97,7 +96,7 @@ module _ (s : World) (shape : Shape (s .areas)) where
   unfolding refusal
   undamaged c e = no-six (tests c s) (whole c) e
 
--- ---- what one of two alike worlds accepts the other accepts
+-- ---- two alike worlds answer every call with the same number
 
 pub at-entry : (m : Areas) (a : ℕ) → Shape m → (entry m a ≡ 0 → ⊥) → standing m a ≡ some (standingOf m (entry m a))
 at-entry m a s n = go (s .entries a)
@@ -129,7 +128,6 @@ module _ (m n : Areas) (k : Alike m n) where
               by (inl f) = omega arith
               by (inr f) = formed-used a (portAt m p) (rw used at (f .formed)) z
 
--- a call that finds its port and the areas as they were is accepted again
 module _ (s u : World) (k : Alike (s .areas) (u .areas)) where
   abbrev M : Areas
   M = s .areas
@@ -143,17 +141,6 @@ module _ (s u : World) (k : Alike (s .areas) (u .areas)) where
   shape : Shape N
   shape = k .shape′
 
-  port : (a : ℕ) → eqb (entry M a) 0 ≡ false → eqb (entry N a) 0 ≡ false
-  port a e = sym (entry-same a) ∙ e
-
-  free-same : (a p : ℕ) → 0 < p → p ≤ 255 → (not (eqb (entry M a) 0) || not (eqb (portAt M p .flags) 0)) ≡ false
-      → (not (eqb (entry N a) 0) || not (eqb (portAt N p .flags) 0)) ≡ false
-  free-same a p l h e =
-      let t = neither _ _ e in
-      let z = same-free M N k p l h (eqb-true _ _ (not-false _ (t .1))) in
-      let f : eqb (entry M a) 0 ≡ true = not-false _ (t .0) in
-      rw (sym (entry-same a) ∙ f, eq-eqb (portAt N p .flags) 0 z)
-
   -- the source and the size that a write finds
   module _ (a : ℕ) (there : eqb (entry M a) 0 ≡ false) where
     seen-same : standingOf M (entry M a) ≡ standingOf N (entry N a)
@@ -166,26 +153,6 @@ module _ (s u : World) (k : Alike (s .areas) (u .areas)) where
     word-same : portAt M (entry M a) .master ≡ portAt N (entry N a) .master
     unfolding standingOf
     word-same = ap (λ (v : Standing). v .word) seen-same
-
-  -- each call's tests, in one world and in the other
-  silent-same : (c : Call) → ((k : TestName) → holds k (tests c s) ≡ false) → Silent (tests c u)
-  silent-same (hear a b) t = bus-in N shape _ (wordOfHeard (heardBy (u .controller) a b)) (t outOfRange)
-  silent-same (quiet n) t = bus-in N shape _ (dueWithin n u) (t outOfRange)
-  silent-same (openPort a p code sink i) t =
-      let o = open-range a p code i (t outOfRange) in
-      (rw (shape .fits), (t outOfRange, (no-above N shape (some a), (free-same a p (o .some-port) (o .port) (t isTaken), tt))))
-  silent-same (closePort a) t = port-in N shape a [] (t outOfRange) (port a (t noPort)) tt
-  silent-same (writePort a ws) t =
-      port-in N shape a (sideTest N a ∷ sizeTest N a ws ∷ []) (t outOfRange) (port a (t noPort))
-      (sym (side-same a (t noPort)) ∙ t wrongSide, (rw (word-same a (t noPort)) at (t wrongSize), tt))
-  silent-same (readPort a) t = port-in N shape a [] (t outOfRange) (port a (t noPort)) tt
-  silent-same (setting x) t = (t outOfRange, tt)
-
-  -- what one of two alike worlds accepts the other accepts
-  pub accepts-same : (c : Call) → refusal c s ≡ 0 → refusal c u ≡ 0
-  accepts-same c e = accepts c u (silent-same c (accepted c s e))
-
-  -- ---- and what one of them refuses the other refuses, with the same number
 
   back : Alike N M
   back = record { shape = k .shape′; shape′ = k .shape; stands = λ a. sym (k .stands a) }
@@ -229,3 +196,7 @@ module _ (s u : World) (k : Alike (s .areas) (u .areas)) where
       port-same a (sideTest M a ∷ sizeTest M a ws ∷ []) (sideTest N a ∷ sizeTest N a ws ∷ []) (λ there. rw (side-same a there, word-same a there))
   refuses-same (readPort a) = port-same a [] [] (λ there. refl)
   refuses-same (setting t) = refl
+
+  -- so what one of them accepts the other accepts
+  pub accepts-same : (c : Call) → refusal c s ≡ 0 → refusal c u ≡ 0
+  accepts-same c e = sym (refuses-same c) ∙ e

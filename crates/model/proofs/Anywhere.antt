@@ -12,7 +12,7 @@ use Rattle.frames.specs.declared.Hearing.{Hearing}
 use Rattle.frames.specs.declared.Judgement.{Judgement}
 use Rattle.frames.specs.declared.Judgement.the-variants.{Sound, Unsound as Bad}
 use Rattle.frames.specs.Hearing.{wordsOf}
-use Rattle.frames.specs.Judge.{judgedMaster, judgedSlave}
+use Rattle.frames.specs.Judge.{judgedMaster, judgedSlave, isSound}
 use Rattle.model.specs.declared.Exchange.{Exchange}
 use Rattle.model.specs.declared.Exchange.the-variants.{Idle, Waiting, Done}
 use Rattle.model.specs.Layout.{Areas, areasFit, portAt}
@@ -21,7 +21,7 @@ use Rattle.model.specs.Lines.{trusted}
 use Rattle.model.specs.Event.{World, heard, heardBy, asMaster, asHeard, waitsFor, answerTo, sent}
 use Rattle.model.specs.Quiet.{effectLater, due, tick, tickEffect, ticks}
 use Rattle.model.specs.Calls.{hear, quiet, badArea, refusal, effect, step, answer}
-use Rattle.model.specs.Past.{Typed, isSlave, isSound, firstWord}
+use Rattle.model.specs.Past.{Typed, isSlave, firstWord}
 use Rattle.model.specs.Taken.{answersNow, Gentle, still, marks, OnlyStatus, Took, takes, spares}
 use Rattle.model.specs.Damage.{SoundMaster}
 use Rattle.model.proofs.Shape.{Valid}

@@ -4,7 +4,7 @@ use Prim.Native.Nat.{ℕ, _+_, _*_, _≤_}
 use mathlib.Core.Path.{_≡_, refl, sym, _∙_, ap, subst}
 use mathlib.Core.Logic.{_⊎_, inl, inr}
 use mathlib.Core.List.{List}
-use mathlib.Core.Option.{Option, none, some}
+use mathlib.Core.Option.{Option, some}
 use native.Mathlib.Omega.{arith}
 use native.Mathlib.Decide.{ℕ-discrete}
 use lib.ListN.{length}
@@ -14,8 +14,9 @@ use Rattle.model.specs.declared.Flags.{Flags}
 use Rattle.model.specs.declared.Faults.{Faults}
 use Rattle.model.specs.Layout.{Areas, stride, place, wordsAt, withWords, portAt, flagsOf}
 use Rattle.model.specs.Ports.{Effect, untouched, fill, mark, opened, closed, filledWords, faulty, markedWords, filled, apply}
+use Rattle.model.specs.Taken.{OnlyStatus}
 use Rattle.model.proofs.Shape.{Shape, Valid, filling, marking, opening, closing}
-use Rattle.model.proofs.PortDoubt.{settle}
+use Rattle.model.proofs.PortDoubt.{portAffected, settle}
 use Rattle.model.proofs.PortWords.{words-same, words-other}
 use Rattle.model.proofs.Bits.{flags-of-word}
 use Rattle.model.proofs.Formed.{lengths}
@@ -23,19 +24,8 @@ use Rattle.model.proofs.ShapeKept.{at-here}
 
 -- n is m, but for status bits of port o, if there is one
 pub record ButPort (o : Option ℕ) (m n : Areas) : Type 0 where
-  pub index : n .index ≡ m .index
-  pub page0 : n .page0 ≡ m .page0
-  pub page1 : n .page1 ≡ m .page1
+  pub only : OnlyStatus m n
   pub same : (p : ℕ) → (o ≡ some p → ⊥) → portAt n p ≡ portAt m p
-  pub only : (p : ℕ) → (portAt n p ≡ portAt m p) ⊎ ((x : Faults) × (portAt n p ≡ markedWords (portAt m p) x))
-
--- the port that an effect concerns
-abbrev pub portAffected : Effect → Option ℕ
-portAffected untouched = none
-portAffected (fill p ws) = some p
-portAffected (mark p x) = some p
-portAffected (opened a p code sink i) = some p
-portAffected (closed a p) = some p
 
 -- words that are the same but for status bits
 abbrev Near : Words → Words → Type 0
@@ -90,7 +80,7 @@ ports-with o l k p w v hl hk e h =
 
 module _ (o : Option ℕ) (m n : Areas) (s : Shape m) (t : Shape n) (b : ButPort o m n) where
   ports : Ports o (m .ports) (n .ports)
-  ports = record { same = b .same; only = b .only }
+  ports = record { same = b .same; only = b .only .ports }
 
   room : (l : List ℕ) (p : ℕ) → length l ≡ stride * 256 → p ≤ 255 → place p + stride ≤ length l
   room l p e h = omega arith
@@ -106,21 +96,21 @@ module _ (o : Option ℕ) (m n : Areas) (s : Shape m) (t : Shape n) (b : ButPort
   unfolding apply filled
   but-apply untouched v = b
   but-apply (fill p ws) (filling at size) =
-      let near = b .only p in
+      let near = b .only .ports p in
       let r = with-port p (filledWords (portAt m p)) (filledWords (portAt n p)) (at-here at .small)
       (near-filled (portAt m p) (portAt n p) near) in
-      rw (near-page (portAt m p) (portAt n p) near, b .page0, b .page1)
-      (record { index = b .index; page0 = refl; page1 = refl; same = r .same; only = r .only })
+      rw (near-page (portAt m p) (portAt n p) near, b .only .page0, b .only .page1)
+      (record { only = record { index = b .only .index; page0 = refl; page1 = refl; ports = r .only }; same = r .same })
   but-apply (mark p x) (marking at) =
       let r = with-port p (markedWords (portAt m p) x) (markedWords (portAt n p) x) (at-here at .small)
-      (near-marked (portAt m p) (portAt n p) x (b .only p)) in
-      record { index = b .index; page0 = b .page0; page1 = b .page1; same = r .same; only = r .only }
+      (near-marked (portAt m p) (portAt n p) x (b .only .ports p)) in
+      record { only = record { index = b .only .index; page0 = b .only .page0; page1 = b .only .page1; ports = r .only }; same = r .same }
   but-apply (opened a p code sink i) (opening ha pos hp hc hi free unused) =
       let r = with-port p _ _ hp refl in
-      record { index = rw (b .index); page0 = b .page0; page1 = b .page1; same = r .same; only = r .only }
+      record { only = record { index = rw (b .only .index); page0 = b .only .page0; page1 = b .only .page1; ports = r .only }; same = r .same }
   but-apply (closed a p) (closing at) =
       let r = with-port p _ _ (at-here at .small) refl in
-      record { index = rw (b .index); page0 = b .page0; page1 = b .page1; same = r .same; only = r .only }
+      record { only = record { index = rw (b .only .index); page0 = b .only .page0; page1 = b .only .page1; ports = r .only }; same = r .same }
 
   pub but-effects : {e f : Effect} → e ≡ f → Valid m f → ButPort (settle (portAffected f) o) (apply f m) (apply e n)
   but-effects {e} {f} i v = subst (λ (g : Effect). ButPort (settle (portAffected f) o) (apply f m) (apply g n)) (sym i) (but-apply f v)

@@ -1,7 +1,7 @@
 -- The port in doubt by its number and by its address: after every accepted run they are the same. Assumes nothing.
 use Prim.Native.Nat.{ℕ, _%_}
 use mathlib.Core.Path.{_≡_, refl, sym, _∙_, ap}
-use mathlib.Core.Bool.{Bool, true, false, cond, _&&_}
+use mathlib.Core.Bool.{Bool, true, false, cond, not, _&&_}
 use mathlib.Core.List.{List, [], _∷_, _++_}
 use mathlib.Core.Option.{Option, none, some}
 use native.Mathlib.Omega.{arith}
@@ -10,10 +10,11 @@ use lib.ListN.{length}
 use borrow.Author.Tests.{eqb-true, eqb-false, eq-eqb, ne-eqb}
 use Rattle.model.specs.Layout.{Areas, entry, portAt}
 use Rattle.model.specs.Ports.{addressOf, Standing, standingOf, standing, opened}
-use Rattle.model.specs.Calls.{Call, hear, quiet, openPort, closePort, writePort, readPort, setting, refusal}
+use Rattle.model.specs.Quiet.{isSome}
+use Rattle.model.specs.Calls.{Call, hear, quiet, openPort, closePort, writePort, readPort, setting, refusal, effect}
 use Rattle.model.specs.Past.{hears, passes, happening, Change, keeps, closes, writes, leaves, after, Accepted, onTrusted, isSlave}
 use Rattle.model.specs.Past.{isWord, awaited, Opening, openingOf, lastOf, fillings}
-use Rattle.model.specs.Differ.{isSinkOf, sinkAt, waitingAddress, isOver, touches, finishedBy, finishes, remains, doubtful}
+use Rattle.model.specs.Differ.{isSinkOf, sinkAt, waitingAddress, touches, finishedBy, finishes, remains, doubtful}
 use Rattle.model.specs.Differ.{ButStatus}
 use Rattle.model.proofs.ToldPort.{standingWith}
 use Rattle.model.proofs.Shape.{Valid, opening}
@@ -25,7 +26,7 @@ use Rattle.model.proofs.Alike.{at-entry}
 use Rattle.model.proofs.Accepted.{valid-open, found-close, found-write}
 use Rattle.model.proofs.Invariant.{ToldBy}
 use Rattle.model.proofs.Told.{past-told}
-use Rattle.model.proofs.Finishes.{entry-told}
+use Rattle.model.proofs.Finishes.{entry-told, hear-concerns}
 
 settle-none : (f : Option ℕ) → settle f none ≡ none
 settle-none none = refl
@@ -128,13 +129,13 @@ module _ (past : List Call) (h : ToldBy past (after past)) where
 
   -- the port that stands at address b, by its number
   by-number : (b a : ℕ) → standing M b ≡ some (standingOf M (entry M b))
-      → cond (eqb b a) none (portNumber (openingOf past a)) ≡ settle (portNumber (openingOf past b)) (portNumber (openingOf past a))
+      → cond (eqb b a) none (portNumber (openingOf past a)) ≡ settle (some (entry M b)) (portNumber (openingOf past a))
   by-number b a e = go (openingOf past b) refl (entry-told past M (h .holds .stands) b e)
     where
       go : (o : Option Opening) → openingOf past b ≡ o → portNumber o ≡ some (entry M b)
-          → cond (eqb b a) none (portNumber (openingOf past a)) ≡ settle (portNumber o) (portNumber (openingOf past a))
+          → cond (eqb b a) none (portNumber (openingOf past a)) ≡ settle (some (entry M b)) (portNumber (openingOf past a))
       go none i z = let y : _≡_ {A = ℕ} 0 1 = cc in absurd (omega arith)
-      go (some q) i z = one-address b a q i
+      go (some q) i z = let p : entry M b ≡ q .port = cc in rw p (one-address b a q i)
 
   -- a free address and a free port
   by-free : (b p a : ℕ) → entry M b ≡ 0 → portAt M p .flags ≡ 0
@@ -162,12 +163,14 @@ module _ (past : List Call) (h : ToldBy past (after past)) where
   -- each call: the port in doubt after it is the port at the address in doubt after it
   pub step-number : (c : Call) → refusal c (after past) ≡ 0 → (x : Option ℕ)
       → portAtAddress (c ∷ past) (remains (finishedBy past (happening c)) x) ≡ settle (finished past c) (portAtAddress past x)
-  unfolding finished openingOf finishes
+  unfolding finished effect openingOf finishes
   step-number c r none = sym (settle-none (finished past c))
-  step-number (hear x y) r (some a) = same-place (hear x y ∷ past) a (finishedBy past (hears x y) a) refl ∙ if-waiting (isSlave (onTrusted past x y .kind)) a
+  step-number (hear x y) r (some a) =
+      same-place (hear x y ∷ past) a (finishedBy past (hears x y) a) refl ∙ if-waiting (isSlave (onTrusted past x y .kind)) a
+      ∙ ap (λ (f : Option ℕ). settle f (portNumber (openingOf past a))) (hear-concerns past h x y)
   step-number (quiet n) r (some a) = same-place (quiet n ∷ past) a (finishedBy past (passes n) a) refl ∙ go (awaited past n)
     where
-      go : (o : Option ℕ) → portAtAddress past (cond (isOver o && isWord (waitingAddress past) a) none (some a)) ≡ settle (over o (waitingPort past)) (portNumber (openingOf past a))
+      go : (o : Option ℕ) → portAtAddress past (cond (not (isSome o) && isWord (waitingAddress past) a) none (some a)) ≡ settle (over o (waitingPort past)) (portNumber (openingOf past a))
       go none = if-waiting true a
       go (some w) = refl
   step-number (openPort b p code sink i) r (some a) = go (valid-open b p code sink i (after past) r)
@@ -201,7 +204,7 @@ module _ (past : List Call) (h : ToldBy past (after past)) where
   unfolding shown
   at-address x n b =
       record {
-        only = record { index = b .index; page0 = b .page0; page1 = b .page1; ports = b .only };
+        only = b .only;
         same = λ p away. b .same p (other x p away);
       }
     where

@@ -14,7 +14,7 @@ use Rattle.frames.specs.declared.Kind.the-variants.{Silence, Noise, Master as M
 use Rattle.frames.specs.declared.Hearing.{Hearing}
 use Rattle.frames.specs.declared.Judgement.{Judgement}
 use Rattle.frames.specs.declared.Judgement.the-variants.{Sound, Unsound as Bad}
-use Rattle.frames.specs.Judge.{judgedMaster, judgedSlave}
+use Rattle.frames.specs.Judge.{judgedMaster, judgedSlave, isSound}
 use Rattle.model.specs.declared.Exchange.{Exchange}
 use Rattle.model.specs.declared.Exchange.the-variants.{Idle, Waiting, Done}
 use Rattle.model.specs.declared.Times.{Times}
@@ -27,9 +27,9 @@ use Rattle.model.specs.Layout.{Areas, areasFit, portAt, wordsAt, withWor
 use Rattle.model.specs.Ports.{codeOf, Standing, standing, viewed, view, Effect, untouched, mark, faulty, markedWords, apply}
 use Rattle.model.specs.Event.{World, asHeard, asMaster, heard, heardBy, sinkFor, taken, answerTo}
 use Rattle.model.specs.Quiet.{times, due, missed, effectLater, ticks, tick, tickEffect, tickController}
-use Rattle.model.specs.Calls.{Call, hear, quiet, openPort, closePort, writePort, readPort, setting, outOfRange, wordOfHeard}
+use Rattle.model.specs.Calls.{Call, hear, outOfRange, wordOfHeard}
 use Rattle.model.specs.Calls.{refusal, effect, step, answer}
-use Rattle.model.specs.Past.{after, Typed, Accepted, onTrusted, firstWord, isSound, awaited}
+use Rattle.model.specs.Past.{after, Typed, Accepted, onTrusted, firstWord, awaited}
 use Rattle.model.specs.Taken.{Gentle, still, marks, OnlyStatus}
 use Rattle.model.specs.Damage.{harmless, Damaged, Damage, SoundMaster}
 use Rattle.model.specs.Differ.{Unseen}
@@ -46,6 +46,7 @@ use Rattle.model.proofs.Holds.{later-valid}
 use Rattle.model.proofs.Invariant.{one-of, ToldBy, chosen-heard}
 use Rattle.model.proofs.Told.{past-told}
 use Rattle.model.proofs.Alike.{bus-in}
+use Rattle.model.proofs.HostCalls.{Sort, event, pause, host, sort, host-undamaged}
 use Rattle.model.proofs.Same.{Alike, same-answer, same-exchange, Same, either-line}
 
 -- ---- effects that change status bits alone
@@ -174,23 +175,22 @@ kept-hear past a b ty h d =
       device = refl;
     })
 
+kept-call : (past : List Call) (c : Call) → Sort c → Typed c → ToldBy past (after past) → Damaged past c
+    → Unharmed (after past) (step c (after past))
+unfolding step
+kept-call past c (event {a} {b}) ty h d = kept-hear past a b ty h d
+kept-call past c (pause {n}) ty h d = kept-ticks n (after past) (h .holds .shape)
+kept-call past c (host x) ty h d = absurd (host-undamaged past c x d)
+
 -- During a stretch of damage only status bits change in the areas, and no address shows anything else.
 pub kept-stretch : (before stretch : List Call) → Accepted (stretch ++ before) → Damage before stretch
     → Unharmed (after before) (after (stretch ++ before))
-unfolding after step
+unfolding after
 kept-stretch before [] acc d = let s = past-told before acc .holds .shape in
     record { areas = record { shape = s; shape′ = s; stands = λ a. refl }; only = only-same _; chosen = refl; device = refl }
-kept-stretch before (hear a b ∷ more) acc d =
+kept-stretch before (c ∷ more) acc d =
     kept-trans _ _ _ (kept-stretch before more (acc .2) (d .1))
-    (kept-hear (more ++ before) a b (acc .0) (past-told (more ++ before) (acc .2)) (d .0))
-kept-stretch before (quiet n ∷ more) acc d =
-    kept-trans _ _ _ (kept-stretch before more (acc .2) (d .1))
-    (kept-ticks n (after (more ++ before)) (past-told (more ++ before) (acc .2) .holds .shape))
-kept-stretch before (openPort a p code sink i ∷ more) acc d = absurd (d .0)
-kept-stretch before (closePort a ∷ more) acc d = absurd (d .0)
-kept-stretch before (writePort a ws ∷ more) acc d = absurd (d .0)
-kept-stretch before (readPort a ∷ more) acc d = absurd (d .0)
-kept-stretch before (setting t ∷ more) acc d = absurd (d .0)
+    (kept-call (more ++ before) c (sort c) (acc .0) (past-told (more ++ before) (acc .2)) (d .0))
 
 -- ---- the master frame that ends the stretch, and what follows
 

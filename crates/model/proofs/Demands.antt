@@ -21,7 +21,7 @@ use Rattle.interrupts.specs.Names.{SFC}
 use Rattle.model.specs.declared.Answer.the-variants.{Never, Refused}
 use Rattle.model.specs.Ports.{codeOf, addressOf, hasPorts, Standing, standing, viewed, view}
 use Rattle.model.specs.Event.{World, heard, heardBy, interruptOf, raiseAll, sent, spoken}
-use Rattle.model.specs.Calls.{Call, hear, refusal, effect, step, answer, outcome, asked, fetched}
+use Rattle.model.specs.Calls.{Call, hear, refusal, effect, step, answer, outcome, asked, refusalOf, fetched}
 use Rattle.model.specs.Past.{after, Typed, Accepted, onTrusted, firstWord, lastSettings, answers, Opening, openingOf, answersSince}
 use Rattle.model.specs.Past.{writesSince, lastOf, sourceTold, statusTold, replyTold, ifMaster, replyIn, fillings, viewWith}
 use Rattle.model.specs.Past.{toldView, shownWords, takenIf, framesJudged, framesUnsound}
@@ -34,7 +34,7 @@ use Rattle.model.proofs.Taken.{taken-viewed, taken-exactly, took-heard,
 use Rattle.model.proofs.Invariant.{one-of}
 use Rattle.model.proofs.Told.{past-told}
 use Rattle.model.proofs.Alike.{undamaged}
-use Rattle.model.proofs.Reading.{last-none, asks-closed, asks-never, fetches}
+use Rattle.model.proofs.Reading.{last-none, asks-closed, asked-number, readable, asks-never, fetches}
 use Rattle.model.proofs.Replies.{exact-told}
 use Rattle.model.proofs.Anywhere.{no-other-reply-anywhere, answered, reply-sound-in}
 
@@ -92,13 +92,16 @@ module _ (past : List Call) (run : Accepted past) where
     standing-told : standing (now .areas) a ≡ some (standingWith o (lastOf filled) (length filled % 65536))
     standing-told = past-told past run .holds .stands a ∙ ap (toldStanding past a) stands
 
-    -- Asking answers never exactly where nothing filled the port since it was opened; fetching hands back the words that filled it last,
-    -- and nothing where none did. An empty port says that it is empty.
+    -- Asking answers never exactly where nothing filled the port since it was opened, and is not refused; fetching hands back the words that
+    -- filled it last, and nothing where none did. An empty port says that it is empty.
     pub ask-never : (asked (now .areas) a ≡ Never) ↔ (filled ≡ [])
     ask-never =
         let x = asks-never (now .areas) shaped a _ standing-told in
         let y = last-none filled in
         (λ e. y .0 (x .0 e), λ e. x .1 (y .1 e))
+
+    pub ask-open : refusalOf (asked (now .areas) a) ≡ 0
+    ask-open = asked-number (now .areas) a ∙ readable (now .areas) shaped a _ standing-told
 
     pub fetch-shows : fetched (now .areas) a ≡ shownWords (lastOf filled)
     fetch-shows = fetches (now .areas) shaped a _ standing-told

@@ -21,16 +21,15 @@ use Rattle.model.specs.Layout.{Areas, entry}
 use Rattle.model.specs.Ports.{codeOf, addressOf, hasPorts, Standing, standingOf, standing, apply}
 use Rattle.model.specs.Event.{openFor, portFor, ifSink, sinkFor, asMaster, asHeard, taken, heard, heardBy}
 use Rattle.model.specs.Quiet.{sinceLater, expired, exchangeLater, timesLater, missed, effectLater}
-use Rattle.model.specs.Calls.{Call, hear, closePort, writePort, refusal, effect}
+use Rattle.model.specs.Calls.{Call, hear, effect}
 use Rattle.model.specs.Past.{after, onTrusted, isSlave, Opening, openingOf, lastOf, fillings}
 use Rattle.model.proofs.ToldPort.{standingWith, toldStanding}
 use Rattle.model.proofs.Tables.{effectOf, hear-effect}
-use Rattle.model.proofs.PortDoubt.{portNumber, sinkNumber, sinkOpen, waitingPort, over, finished, settle}
+use Rattle.model.proofs.PortDoubt.{portNumber, sinkNumber, sinkOpen, waitingPort, over, settle, portAffected}
 use Rattle.model.proofs.Standings.{standing-at}
-use Rattle.model.proofs.Accepted.{nowhere, found-close, found-write}
+use Rattle.model.proofs.Accepted.{nowhere}
 use Rattle.model.proofs.Waits.{waitNow, Live, waits-now, waits-later}
 use Rattle.model.proofs.Invariant.{ToldBy}
-use Rattle.model.proofs.ButPort.{portAffected}
 
 -- the number of a port, if there is one
 abbrev pub portIn : Option Standing → Option ℕ
@@ -116,22 +115,15 @@ module _ (past : List Call) (h : ToldBy past (after past)) where
       sink-open-told past (after past .areas) (h .holds .stands) (waitNow (c .exchange) (c .times) 0)
       ∙ ap (sinkOpen past) (h .holds .waits 0)
 
-  pub finished-hear : (a b : Hearing) → finished past (hear a b) ≡ portAffected (effect (hear a b) (after past))
-  unfolding finished effect heardBy heard
-  finished-hear a b =
+  -- a slave frame concerns the port that waits, and no other frame concerns a port
+  pub hear-concerns : (a b : Hearing)
+      → cond (isSlave (onTrusted past a b .kind)) (waitingPort past) none ≡ portAffected (effect (hear a b) (after past))
+  unfolding effect heardBy heard
+  hear-concerns a b =
       let c = after past .controller in
       let k = onTrusted past a b in
       sym (ap portAffected (hear-effect (after past) a b) ∙ heard-port (after past .areas) k (k .kind) (c .exchange) (c .times) (h .holds .live)
       ∙ ap (λ (o : Option ℕ). cond (isSlave (k .kind)) o none) waiting-told)
-
-  pub finished-close : (a : ℕ) → refusal (closePort a) (after past) ≡ 0 → finished past (closePort a) ≡ portAffected (effect (closePort a) (after past))
-  unfolding finished effect
-  finished-close a r = entry-told past (after past .areas) (h .holds .stands) a (found-close a (after past) r)
-
-  pub finished-write : (a : ℕ) (ws : List ℕ) → refusal (writePort a ws) (after past) ≡ 0
-      → finished past (writePort a ws) ≡ portAffected (effect (writePort a ws) (after past))
-  unfolding finished effect
-  finished-write a ws r = entry-told past (after past .areas) (h .holds .stands) a (found-write a ws (after past) r)
 
 -- ---- quiet time: the port in doubt, bit time for bit time and at once
 

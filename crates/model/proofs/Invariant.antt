@@ -2,7 +2,7 @@
 -- the past tells. Assumes nothing.
 use Prim.Native.Nat.{ℕ, suc, _+_, _%_, _≤_, _<_, min}
 use mathlib.Core.Path.{_≡_, refl, _∙_, ap}
-use mathlib.Core.Bool.{Bool, true, false, cond, _&&_}
+use mathlib.Core.Bool.{Bool, true, false, cond, not, _&&_}
 use mathlib.Core.List.{List, _∷_}
 use mathlib.Core.Option.{Option, none, some}
 use native.Mathlib.Omega.{arith}
@@ -15,7 +15,7 @@ use Rattle.frames.specs.declared.Hearing.{Hearing}
 use Rattle.frames.specs.declared.Judgement.{Judgement}
 use Rattle.frames.specs.declared.Judgement.the-variants.{Sound, Unsound as Bad}
 use Rattle.frames.specs.Hearing.{wordsOf}
-use Rattle.frames.specs.Judge.{judgedMaster, judgedSlave}
+use Rattle.frames.specs.Judge.{judgedMaster, judgedSlave, isSound}
 use Rattle.model.specs.declared.Exchange.{Exchange}
 use Rattle.model.specs.declared.Exchange.the-variants.{Idle, Waiting, Done}
 use Rattle.model.specs.declared.Times.{Times}
@@ -23,7 +23,7 @@ use Rattle.model.specs.declared.Counts.{Counts}
 use Rattle.model.specs.declared.Controller.{Controller}
 use Rattle.model.specs.Layout.{Areas}
 use Rattle.model.specs.Ports.{codeOf, Standing}
-use Rattle.model.specs.Event.{World, asMaster, asSlave, asHeard, heard, heardBy, isBad, judgedOne}
+use Rattle.model.specs.Event.{World, asMaster, asSlave, asHeard, heard, heardBy, judgedOne}
 use Rattle.model.specs.Quiet.{times}
 use Rattle.model.specs.Host.{status, address}
 use Rattle.model.specs.Calls.{Call, hear, effect, step}
@@ -80,7 +80,7 @@ hear-standing past x y a (some o) = go (o .sink) (answers past x y (o .word))
 
 -- the counts: one more frame judged, or one more unsound
 counted-one : (n : Counts) (f u : ℕ) (j : Judgement) → n .fc ≡ f % 65536 → n .ec ≡ min u 65535
-    → ((judgedOne (isBad j) n .fc) ≡ suc f % 65536) × ((judgedOne (isBad j) n .ec) ≡ min (addUnsound (some j) u) 65535)
+    → ((judgedOne (not (isSound j)) n .fc) ≡ suc f % 65536) × ((judgedOne (not (isSound j)) n .ec) ≡ min (addUnsound (some j) u) 65535)
 counted-one n f u Sound ef eu = (omega arith, eu)
 counted-one n f u (Bad crc) ef eu = (omega arith, go (ltb (n .ec) 65535) refl)
   where

@@ -17,6 +17,7 @@ pub mod Holds
 pub mod Invariant
 pub mod Hosted
 pub mod Told
+pub mod HostCalls
 pub mod Same
 pub mod Alike
 pub mod Damage

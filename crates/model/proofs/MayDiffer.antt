@@ -3,78 +3,56 @@
 -- allows. Assumes nothing.
 use Prim.Native.Nat.{ℕ, zero, suc, _≤_}
 use mathlib.Core.Path.{_≡_, refl, _∙_, ap, subst}
-use mathlib.Core.Bool.{true}
 use mathlib.Core.List.{List, [], _∷_, _++_}
 use mathlib.Core.Option.{Option}
 use lib.ListN.{length}
 use Rattle.frames.specs.declared.Hearing.{Hearing}
 use Rattle.model.specs.declared.Exchange.{Exchange}
-use Rattle.model.specs.declared.Device.{Device}
 use Rattle.model.specs.declared.Controller.{Controller}
-use Rattle.model.specs.Layout.{Areas}
-use Rattle.model.specs.Ports.{untouched, fill, closed, apply}
+use Rattle.model.specs.Ports.{untouched, apply}
 use Rattle.model.specs.Event.{World, asHeard, heard, heardBy}
 use Rattle.model.specs.Quiet.{due, effectLater, tickEffect, tickController, tick, ticks}
 use Rattle.model.specs.Host.{device, Setting, address, status, replyTime, slm, ls, clearEC, reset, group0, group1, tell}
-use Rattle.model.specs.Calls.{Call, hear, quiet, openPort, closePort, writePort, readPort, setting, refusal, effect, step}
-use Rattle.model.specs.Past.{after, Typed, Accepted}
+use Rattle.model.specs.Calls.{Call, hear, refusal, effect, step}
+use Rattle.model.specs.Past.{Happening, hears, passes, sets, changes, happening, after, Typed, Accepted}
 use Rattle.model.specs.Damage.{Damage, HeardAlike, SoundMaster}
-use Rattle.model.specs.Differ.{Hosts, AllHosts, Follows, ended, then, waitingAddress, doubtful, MayDiffer, Unseen}
+use Rattle.model.specs.Differ.{ByHost, Hosts, AllHosts, Follows, ended, then, waitingAddress, doubtful, MayDiffer, Unseen}
 use Rattle.model.proofs.Shape.{Valid}
 use Rattle.model.proofs.Tables.{effectOf, hear-effect}
-use Rattle.model.proofs.PortDoubt.{waitingPort, over, finished, settle, doubtfulPort}
-use Rattle.model.proofs.ButPort.{ButPort, portAffected, but-effects}
-use Rattle.model.proofs.Accepted.{valid-open, valid-close, valid-write}
+use Rattle.model.proofs.PortDoubt.{waitingPort, over, finishedAs, finished, settle, doubtfulPort, portAffected}
+use Rattle.model.proofs.ButPort.{ButPort, but-effects}
+use Rattle.model.proofs.HostCalls.{Sort, event, pause, host, sort, host-step, host-valid}
 use Rattle.model.proofs.Taken.{valid-heard}
 use Rattle.model.proofs.Waits.{waitNow, Live, live-later}
 use Rattle.model.proofs.Holds.{later-valid}
 use Rattle.model.proofs.Invariant.{ToldBy}
 use Rattle.model.proofs.Told.{past-told}
-use Rattle.model.proofs.Same.{Alike, same-effect, same-missed, same-entry, alike-effects, Same, either-line, same-due, same-tick}
-use Rattle.model.proofs.Same.{same-step}
+use Rattle.model.proofs.Same.{Alike, same-effect, same-missed, Same, either-line, same-due, same-tick}
+use Rattle.model.proofs.Same.{same-host, alike-host, part-host, device-set, same-step}
 use Rattle.model.proofs.Alike.{accepts-same}
 use Rattle.model.proofs.Damage.{Unharmed, kept-stretch, heard-master, same-master, master-accepted, earlier, same-reply, unseen-same}
-use Rattle.model.proofs.Finishes.{sinkPort, waiting-told, finished-hear, finished-close, finished-write, over-now, over-later}
+use Rattle.model.proofs.Finishes.{sinkPort, waiting-told, over-now, over-later}
 use Rattle.model.proofs.ByAddress.{at-address, waiting-address}
 use Rattle.model.proofs.Waned.{stretch-but}
 
--- ---- host calls on two areas that show the same
+-- ---- one host call on two areas that show the same
 
-module _ (past : List Call) (s : World) (h : ToldBy past (after past)) (k : Alike (s .areas) (after past .areas)) where
-  abbrev N : Areas
-  N = after past .areas
+host-finished : (past : List Call) (c : Call) → Hosts c → finished past c ≡ portAffected (effect c (after past))
+unfolding finished
+host-finished past c h = by (happening c) h
+  where
+    by : (x : Happening) → ByHost x → finishedAs past x (effect c (after past)) ≡ portAffected (effect c (after past))
+    by (hears a b) y = absurd y
+    by (passes n) y = absurd y
+    by (sets t) y = refl
+    by (changes f) y = refl
 
-  alike-host : (c : Call) → Hosts c → refusal c s ≡ 0 → refusal c (after past) ≡ 0 → Alike (step c s .areas) (step c (after past) .areas)
-  unfolding step effect
-  alike-host (hear a b) hc r q = absurd hc
-  alike-host (quiet n) hc r q = absurd hc
-  alike-host (openPort a p code sink i) hc r q =
-      alike-effects (s .areas) N k refl (valid-open a p code sink i s r) (valid-open a p code sink i (after past) q)
-  alike-host (closePort a) hc r q =
-      alike-effects (s .areas) N k (ap (closed a) (same-entry (s .areas) N k a)) (valid-close a s r) (valid-close a (after past) q)
-  alike-host (writePort a ws) hc r q =
-      alike-effects (s .areas) N k (ap (λ (n : ℕ). fill n ws) (same-entry (s .areas) N k a)) (valid-write a ws s r)
-      (valid-write a ws (after past) q)
-  alike-host (readPort a) hc r q = k
-  alike-host (setting t) hc r q = k
-
-  module _ (o : Option ℕ) (b : ButPort o (after past .areas) (s .areas)) where
-    but-host : (c : Call) → Hosts c → refusal c (after past) ≡ 0
-        → ButPort (settle (finished past c) o) (step c (after past) .areas) (step c s .areas)
-    unfolding step effect finished
-    but-host (hear x y) hc q = absurd hc
-    but-host (quiet n) hc q = absurd hc
-    but-host (openPort a p code sink i) hc q =
-        but-effects o N (s .areas) (k .shape′) (k .shape) b refl (valid-open a p code sink i (after past) q)
-    but-host (closePort a) hc q =
-        rw (finished-close past h a q)
-        (but-effects o N (s .areas) (k .shape′) (k .shape) b (ap (closed a) (same-entry (s .areas) N k a)) (valid-close a (after past) q))
-    but-host (writePort a ws) hc q =
-        rw (finished-write past h a ws q)
-        (but-effects o N (s .areas) (k .shape′) (k .shape) b (ap (λ (n : ℕ). fill n ws) (same-entry (s .areas) N k a))
-        (valid-write a ws (after past) q))
-    but-host (readPort a) hc q = b
-    but-host (setting t) hc q = b
+but-host : (past : List Call) (s : World) (o : Option ℕ) → Alike (s .areas) (after past .areas) → ButPort o (after past .areas) (s .areas)
+    → (c : Call) → Hosts c → refusal c (after past) ≡ 0
+    → ButPort (settle (finished past c) o) (step c (after past) .areas) (step c s .areas)
+but-host past s o k b c h q =
+    rw (host-finished past c h, host-step c h (after past), host-step c h s)
+    (but-effects o (after past .areas) (s .areas) (k .shape′) (k .shape) b (same-host s (after past) k c h) (host-valid c h (after past) q))
 
 -- ---- between the stretch and the master frame that ends it: exchange and times may differ too
 
@@ -85,13 +63,7 @@ pub record Near (o : Option ℕ) (u s : World) : Type 0 where
   pub device : s .controller .device ≡ u .controller .device
 
 pub near-kept : {o : Option ℕ} {u s : World} → Near o u s → Unharmed u s
-near-kept n =
-    record {
-      areas = n .areas;
-      only = record { index = n .but .index; page0 = n .but .page0; page1 = n .but .page1; ports = n .but .only };
-      chosen = n .chosen;
-      device = n .device;
-    }
+near-kept n = record { areas = n .areas; only = n .but .only; chosen = n .chosen; device = n .device }
 
 chosen-set : (t : Setting) (c d : Controller) → c .times .chosen ≡ d .times .chosen → tell t c .times .chosen ≡ tell t d .times .chosen
 unfolding tell
@@ -105,31 +77,6 @@ chosen-set reset c d e = refl
 chosen-set (group0 g) c d e = e
 chosen-set (group1 g) c d e = e
 
-device-set : (t : Setting) (c d : Controller) → c .device ≡ d .device → tell t c .device ≡ tell t d .device
-unfolding tell
-device-set (address a) c d e = ap (λ (x : Device). device a (x .set) (x .status)) e
-device-set (status w) c d e = ap (λ (x : Device). device (x .address) true w) e
-device-set (replyTime n) c d e = e
-device-set (slm b) c d e = e
-device-set (ls b) c d e = e
-device-set clearEC c d e = e
-device-set reset c d e = refl
-device-set (group0 g) c d e = e
-device-set (group1 g) c d e = e
-
--- a part of the controller that a setting makes the same from the same is the same after a host call
-module _ {A : Type 0} (f : Controller → A) (set : (t : Setting) (c d : Controller) → f c ≡ f d → f (tell t c) ≡ f (tell t d)) where
-  part-host : (c : Call) → Hosts c → (s u : World) → f (s .controller) ≡ f (u .controller)
-      → f (step c s .controller) ≡ f (step c u .controller)
-  unfolding step
-  part-host (hear a b) hc s u e = absurd hc
-  part-host (quiet n) hc s u e = absurd hc
-  part-host (openPort a p code sink i) hc s u e = e
-  part-host (closePort a) hc s u e = e
-  part-host (writePort a ws) hc s u e = e
-  part-host (readPort a) hc s u e = e
-  part-host (setting t) hc s u e = set t (s .controller) (u .controller) e
-
 -- from two accepted runs, of which the one is a longer past, any host calls
 pub near-hosts : (short long : List Call) (o : Option ℕ) → Accepted short → Near o (after short) (after long) → (between : List Call)
     → AllHosts between → Accepted (between ++ long)
@@ -141,12 +88,11 @@ near-hosts short long o run n (c ∷ between) hs acc =
     let s = after (between ++ long) in
     let u = after (between ++ short) in
     let k = r .1 in
-    let q = accepts-same s u (k .areas) c (acc .1) in
-    let h = past-told (between ++ short) (r .0) in (
+    let q = accepts-same s u (k .areas) c (acc .1) in (
       (acc .0, q, r .0),
       record {
-        areas = alike-host (between ++ short) s h (k .areas) c (hs .0) (acc .1) q;
-        but = but-host (between ++ short) s h (k .areas) _ (k .but) c (hs .0) q;
+        areas = alike-host s u (k .areas) c (hs .0) (acc .1) q;
+        but = but-host (between ++ short) s _ (k .areas) (k .but) c (hs .0) q;
         chosen = part-host (λ (d : Controller). d .times .chosen) chosen-set c (hs .0) s u (k .chosen);
         device = part-host (λ (d : Controller). d .device) device-set c (hs .0) s u (k .device);
       },
@@ -211,28 +157,23 @@ ticks-but (suc n) s u o k l a b =
 
 -- one call, heard alike and accepted in both
 but-step : (past : List Call) (s : World) (o : Option ℕ) → ToldBy past (after past) → Same s (after past)
-    → ButPort o (after past .areas) (s .areas) → (c : Call) → Typed c → HeardAlike c → refusal c (after past) ≡ 0
+    → ButPort o (after past .areas) (s .areas) → (c : Call) → Sort c → Typed c → HeardAlike c → refusal c (after past) ≡ 0
     → ButPort (settle (finished past c) o) (step c (after past) .areas) (step c s .areas)
 unfolding step finished
-but-step past s o h k b (hear x y) ty al q =
-    subst (λ (z : Hearing). ButPort (settle (finished past (hear x z)) o) (step (hear x z) (after past) .areas) (step (hear x z) s .areas)) al
-    (rw (finished-hear past h x x)
-    (but-effects o (after past .areas) (s .areas) (k .areas .shape′) (k .areas .shape) b (effect-hear s (after past) k x)
-    (valid-hear (after past) x (ty .0))))
-but-step past s o h k b (quiet n) ty al q =
+but-step past s o h k b c (event {a} {b = y}) ty al q =
+    subst (λ (z : Hearing). ButPort (settle (finished past (hear a z)) o) (step (hear a z) (after past) .areas) (step (hear a z) s .areas)) al
+    (but-effects o (after past .areas) (s .areas) (k .areas .shape′) (k .areas .shape) b (effect-hear s (after past) k a)
+    (valid-hear (after past) a (ty .0)))
+but-step past s o h k b c (pause {n}) ty al q =
     rw (← (h .holds .waits n), ← (waiting-told past h)) (ticks-but n s (after past) o k (h .holds .live) (h .holds .short) b)
-but-step past s o h k b (openPort a p code sink i) ty al q = but-host past s h (k .areas) o b (openPort a p code sink i) tt q
-but-step past s o h k b (closePort a) ty al q = but-host past s h (k .areas) o b (closePort a) tt q
-but-step past s o h k b (writePort a ws) ty al q = but-host past s h (k .areas) o b (writePort a ws) tt q
-but-step past s o h k b (readPort a) ty al q = but-host past s h (k .areas) o b (readPort a) tt q
-but-step past s o h k b (setting t) ty al q = but-host past s h (k .areas) o b (setting t) tt q
+but-step past s o h k b c (host x) ty al q = but-host past s o (k .areas) b c x q
 
 -- the master frame that ends the stretch
-but-master : (past : List Call) (s : World) (o : Option ℕ) → ToldBy past (after past) → ButPort o (after past .areas) (s .areas)
+but-master : (past : List Call) (s : World) (o : Option ℕ) → ButPort o (after past .areas) (s .areas)
     → (x : Hearing) → SoundMaster x
     → ButPort (settle (finished past (hear x x)) o) (step (hear x x) (after past) .areas) (step (hear x x) s .areas)
-unfolding step apply
-but-master past s o h b x m = rw (finished-hear past h x x, master-effect x m (after past), master-effect x m s) b
+unfolding step apply finished
+but-master past s o b x m = rw (master-effect x m (after past), master-effect x m s) b
 
 pub record Joined (o : Option ℕ) (u s : World) : Type 0 where
   pub same : Same s u
@@ -250,7 +191,7 @@ joined-from short long o run n calls (ended {x} {between} m hs) acc =
       (acc .0, master-accepted u s k x (acc .1), r .0),
       record {
         same = same-master u s k x m;
-        but = but-master (between ++ short) s _ (past-told (between ++ short) (r .0)) (r .1 .but) x m;
+        but = but-master (between ++ short) s _ (r .1 .but) x m;
       },
     )
 joined-from short long o run n calls (then {c} {calls = later} al f) acc =
@@ -262,7 +203,7 @@ joined-from short long o run n calls (then {c} {calls = later} al f) acc =
       (acc .0, q, r .0),
       record {
         same = same-step s u k c (acc .0) al (acc .1) q;
-        but = but-step (later ++ short) s _ (past-told (later ++ short) (r .0)) k (r .1 .but) c (acc .0) al q;
+        but = but-step (later ++ short) s _ (past-told (later ++ short) (r .0)) k (r .1 .but) c (sort c) (acc .0) al q;
       },
     )
 

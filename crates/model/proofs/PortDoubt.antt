@@ -5,9 +5,9 @@ use mathlib.Core.Bool.{cond, _&&_}
 use mathlib.Core.List.{List, [], _∷_, _++_}
 use mathlib.Core.Option.{Option, none, some}
 use lib.Dec.{eqb}
-use Rattle.model.specs.Ports.{addressOf}
-use Rattle.model.specs.Calls.{Call, hear, quiet, openPort, closePort, writePort, readPort, setting}
-use Rattle.model.specs.Past.{onTrusted, isSlave, awaited, Opening, openingOf}
+use Rattle.model.specs.Ports.{addressOf, Effect, untouched, fill, mark, opened, closed}
+use Rattle.model.specs.Calls.{Call, effect}
+use Rattle.model.specs.Past.{Happening, hears, passes, sets, changes, happening, after, awaited, Opening, openingOf}
 
 -- the number of the port that stands open
 abbrev pub portNumber : Option Opening → Option ℕ
@@ -37,15 +37,23 @@ abbrev pub over : Option ℕ → Option ℕ → Option ℕ
 over none p = p
 over (some w) p = none
 
--- an exchange finishes with a slave frame, or when the reply time is reached; opening, closing and writing set the status bits too
+-- the port that an effect concerns
+abbrev pub portAffected : Effect → Option ℕ
+portAffected untouched = none
+portAffected (fill p ws) = some p
+portAffected (mark p x) = some p
+portAffected (opened a p code sink i) = some p
+portAffected (closed a p) = some p
+
+-- the port whose status bits a call sets: that whose wait is over in quiet time, else the one that the call's effect concerns
+abbrev pub finishedAs : List Call → Happening → Effect → Option ℕ
+finishedAs past (hears a b) e = portAffected e
+finishedAs past (passes n) e = over (awaited past n) (waitingPort past)
+finishedAs past (sets t) e = portAffected e
+finishedAs past (changes f) e = portAffected e
+
 unfoldable pub finished : List Call → Call → Option ℕ
-finished past (hear a b) = cond (isSlave (onTrusted past a b .kind)) (waitingPort past) none
-finished past (quiet n) = over (awaited past n) (waitingPort past)
-finished past (openPort a p code sink i) = some p
-finished past (closePort a) = portNumber (openingOf past a)
-finished past (writePort a ws) = portNumber (openingOf past a)
-finished past (readPort a) = none
-finished past (setting t) = none
+finished past c = finishedAs past (happening c) (effect c (after past))
 
 -- the port whose status bits may differ, after port f finished an exchange
 abbrev pub settle : Option ℕ → Option ℕ → Option ℕ

@@ -76,7 +76,8 @@ part-shown f ws = go (f .ever) (isHeld (f .faults))
     go false h = refl
 
 module _ (m : Areas) (shape : Shape m) (a : ℕ) (v : Standing) (seen : standing m a ≡ some v) where
-  readable : portRefusal (readPort a) m ≡ 0
+  -- reading it is not refused
+  pub readable : portRefusal (readPort a) m ≡ 0
   unfolding portRefusal
   readable =
       let at = standing-at m a v seen in

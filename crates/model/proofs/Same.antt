@@ -18,13 +18,14 @@ use Rattle.model.specs.Lines.{trusted}
 use Rattle.model.specs.declared.Lines.{Lines}
 use Rattle.model.specs.Host.{device, Setting, address, status, replyTime, slm, ls, clearEC, reset, group0, group1, tell}
 use Rattle.model.specs.Calls.{Call, hear, quiet, openPort, closePort, writePort, readPort, setting, refusal, effect, step}
-use Rattle.model.specs.Past.{Typed}
+use Rattle.model.specs.Past.{Happening, hears, passes, sets, changes, happening, Typed}
 use Rattle.model.specs.Damage.{HeardAlike}
-use Rattle.model.specs.Event.{world, World, portFor, answerTo, exchangeFor, heard, heardBy, asHeard}
+use Rattle.model.specs.Differ.{Hosts}
+use Rattle.model.specs.Event.{World, portFor, answerTo, exchangeFor, heard, heardBy, asHeard}
 use Rattle.model.specs.Quiet.{times, expired, due, effectLater, exchangeLater, timesLater, tickEffect, tickController, tick, ticks}
 use Rattle.model.proofs.Shape.{Shape, Valid, standingAfter}
 use Rattle.model.proofs.Tables.{hear-controller, hear-effect, exchangeAfter, timesAfter, effectOf}
-use Rattle.model.proofs.Accepted.{valid-open, valid-close, valid-write}
+use Rattle.model.proofs.HostCalls.{Sort, event, pause, host, sort, hosted, host-step, host-valid}
 use Rattle.model.proofs.Taken.{valid-heard}
 use Rattle.model.proofs.Holds.{later-valid}
 use Rattle.model.proofs.Standings.{standing-at, none-entry}
@@ -155,53 +156,89 @@ unfolding ticks
 same-ticks zero s u k = k
 same-ticks (suc n) s u k = same-ticks n (tick s) (tick u) (same-tick s u k)
 
-module _ (s u : World) (k : Same s u) where
-  -- the host's calls, accepted in both
-  same-area : (c : Call) {e f : Effect} → e ≡ f → Valid (s .areas) e → Valid (u .areas) f
-      → Same (world (s .controller) (apply e (s .areas))) (world (u .controller) (apply f (u .areas)))
-  same-area c i p q =
-      record { areas = alike-effects (s .areas) (u .areas) (k .areas) i p q; exchange = k .exchange; times = k .times; device = k .device }
+same-pause : (n : ℕ) (s u : World) → Same s u → Same (step (quiet n) s) (step (quiet n) u)
+unfolding step
+same-pause n s u k = same-ticks n s u k
 
-  same-set : (t : Setting) → Same (step (setting t) s) (step (setting t) u)
-  unfolding step tell
-  same-set (address a) =
-      record {
-        areas = k .areas;
-        exchange = k .exchange;
-        times = k .times;
-        device = ap (λ (d : Device). device a (d .set) (d .status)) (k .device);
-      }
-  same-set (status w) =
-      record {
-        areas = k .areas;
-        exchange = k .exchange;
-        times = k .times;
-        device = ap (λ (d : Device). device (d .address) true w) (k .device);
-      }
-  same-set (replyTime t) =
-      record {
-        areas = k .areas;
-        exchange = k .exchange;
-        times = ap (λ (x : Times). times (x .since) (x .line) t (x .adopted)) (k .times);
-        device = k .device;
-      }
-  same-set (slm b) = record { areas = k .areas; exchange = k .exchange; times = k .times; device = k .device }
-  same-set (ls b) = record { areas = k .areas; exchange = k .exchange; times = k .times; device = k .device }
-  same-set clearEC = record { areas = k .areas; exchange = k .exchange; times = k .times; device = k .device }
-  same-set reset = record { areas = k .areas; exchange = refl; times = refl; device = refl }
-  same-set (group0 g) = record { areas = k .areas; exchange = k .exchange; times = k .times; device = k .device }
-  same-set (group1 g) = record { areas = k .areas; exchange = k .exchange; times = k .times; device = k .device }
+-- ---- the host's calls
 
-  -- The same call, heard alike on both lines and accepted in both worlds, leaves them the same.
-  pub same-step : (c : Call) → Typed c → HeardAlike c → refusal c s ≡ 0 → refusal c u ≡ 0 → Same (step c s) (step c u)
-  unfolding step effect
-  same-step (hear a b) t l p q = subst (λ (y : Hearing). Same (step (hear a y) s) (step (hear a y) u)) l (same-hear s u k a (t .0))
-  same-step (quiet n) t l p q = same-ticks n s u k
-  same-step (openPort a p code sink i) t l r q =
-      same-area (openPort a p code sink i) refl (valid-open a p code sink i s r) (valid-open a p code sink i u q)
-  same-step (closePort a) t l p q =
-      same-area (closePort a) (ap (closed a) (same-entry _ _ (k .areas) a)) (valid-close a s p) (valid-close a u q)
-  same-step (writePort a ws) t l p q =
-      same-area (writePort a ws) (ap (λ (n : ℕ). fill n ws) (same-entry _ _ (k .areas) a)) (valid-write a ws s p) (valid-write a ws u q)
-  same-step (readPort a) t l p q = k
-  same-step (setting t) ty l p q = same-set t
+-- the same effect
+pub same-host : (s u : World) → Alike (s .areas) (u .areas) → (c : Call) → Hosts c → effect c s ≡ effect c u
+unfolding effect
+same-host s u k (hear a b) h = absurd h
+same-host s u k (quiet n) h = absurd h
+same-host s u k (openPort a p code sink i) h = refl
+same-host s u k (closePort a) h = ap (closed a) (same-entry _ _ k a)
+same-host s u k (writePort a ws) h = ap (λ (n : ℕ). fill n ws) (same-entry _ _ k a)
+same-host s u k (readPort a) h = refl
+same-host s u k (setting t) h = refl
+
+-- accepted in both, it leaves areas that show the same
+pub alike-host : (s u : World) → Alike (s .areas) (u .areas) → (c : Call) → Hosts c → refusal c s ≡ 0 → refusal c u ≡ 0
+    → Alike (step c s .areas) (step c u .areas)
+alike-host s u k c h p q =
+    rw (host-step c h s, host-step c h u) (alike-effects _ _ k (same-host s u k c h) (host-valid c h s p) (host-valid c h u q))
+
+-- a part of the controller that a setting makes the same from the same is the same after every host call
+module _ {A : Type 0} (f : Controller → A) (set : (t : Setting) (c d : Controller) → f c ≡ f d → f (tell t c) ≡ f (tell t d)) where
+  pub part-host : (c : Call) → Hosts c → (s u : World) → f (s .controller) ≡ f (u .controller)
+      → f (step c s .controller) ≡ f (step c u .controller)
+  part-host c h s u e = rw (host-step c h s, host-step c h u) (by (happening c))
+    where
+      by : (x : Happening) → f (hosted x (s .controller)) ≡ f (hosted x (u .controller))
+      by (hears a b) = e
+      by (passes n) = e
+      by (sets t) = set t (s .controller) (u .controller) e
+      by (changes g) = e
+
+exchange-set : (t : Setting) (c d : Controller) → c .exchange ≡ d .exchange → tell t c .exchange ≡ tell t d .exchange
+unfolding tell
+exchange-set (address a) c d e = e
+exchange-set (status w) c d e = e
+exchange-set (replyTime n) c d e = e
+exchange-set (slm b) c d e = e
+exchange-set (ls b) c d e = e
+exchange-set clearEC c d e = e
+exchange-set reset c d e = refl
+exchange-set (group0 g) c d e = e
+exchange-set (group1 g) c d e = e
+
+times-set : (t : Setting) (c d : Controller) → c .times ≡ d .times → tell t c .times ≡ tell t d .times
+unfolding tell
+times-set (address a) c d e = e
+times-set (status w) c d e = e
+times-set (replyTime n) c d e = ap (λ (x : Times). times (x .since) (x .line) n (x .adopted)) e
+times-set (slm b) c d e = e
+times-set (ls b) c d e = e
+times-set clearEC c d e = e
+times-set reset c d e = refl
+times-set (group0 g) c d e = e
+times-set (group1 g) c d e = e
+
+pub device-set : (t : Setting) (c d : Controller) → c .device ≡ d .device → tell t c .device ≡ tell t d .device
+unfolding tell
+device-set (address a) c d e = ap (λ (x : Device). device a (x .set) (x .status)) e
+device-set (status w) c d e = ap (λ (x : Device). device (x .address) true w) e
+device-set (replyTime n) c d e = e
+device-set (slm b) c d e = e
+device-set (ls b) c d e = e
+device-set clearEC c d e = e
+device-set reset c d e = refl
+device-set (group0 g) c d e = e
+device-set (group1 g) c d e = e
+
+-- The same call, heard alike on both lines and accepted in both worlds, leaves them the same.
+pub same-step : (s u : World) → Same s u → (c : Call) → Typed c → HeardAlike c → refusal c s ≡ 0 → refusal c u ≡ 0
+    → Same (step c s) (step c u)
+same-step s u k c ty l p q = go c (sort c) ty l p q
+  where
+    go : (c : Call) → Sort c → Typed c → HeardAlike c → refusal c s ≡ 0 → refusal c u ≡ 0 → Same (step c s) (step c u)
+    go c (event {a} {b}) ty l p q = subst (λ (y : Hearing). Same (step (hear a y) s) (step (hear a y) u)) l (same-hear s u k a (ty .0))
+    go c (pause {n}) ty l p q = same-pause n s u k
+    go c (host h) ty l p q =
+        record {
+          areas = alike-host s u (k .areas) c h p q;
+          exchange = part-host (λ (d : Controller). d .exchange) exchange-set c h s u (k .exchange);
+          times = part-host (λ (d : Controller). d .times) times-set c h s u (k .times);
+          device = part-host (λ (d : Controller). d .device) device-set c h s u (k .device);
+        }

@@ -55,8 +55,8 @@ areas-equal m n k b =
     lengths n (k .shape .fits) .ports ∙ sym (lengths m (k .shape′ .fits) .ports) in
     let words : n .ports ≡ m .ports =
     ports-equal (m .ports) (n .ports) long (λ p. b .same p (λ e. let z : _≡_ {A = ℕ} 0 1 = cc in omega arith)) in
-    ap₂ (λ (i p : List ℕ). areas i p (n .page0) (n .page1)) (b .index) words
-    ∙ ap₂ (λ (z o : List ℕ). areas (m .index) (m .ports) z o) (b .page0) (b .page1)
+    ap₂ (λ (i p : List ℕ). areas i p (n .page0) (n .page1)) (b .only .index) words
+    ∙ ap₂ (λ (z o : List ℕ). areas (m .index) (m .ports) z o) (b .only .page0) (b .only .page1)
 
 -- ---- asking
 

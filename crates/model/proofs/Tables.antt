@@ -6,6 +6,7 @@ use mathlib.Core.List.{List, [], _∷_}
 use mathlib.Core.Option.{Option, none}
 use lib.Dec.{eqb, ltb}
 use mathlib.Core.Path.{_≡_, refl}
+use Rattle.frames.specs.Judge.{isSound}
 use Rattle.frames.specs.declared.Hearing.{Hearing}
 use Rattle.interrupts.specs.Names.{EMF, DMF, DSF, SFC, FEV}
 use Rattle.model.specs.declared.Exchange.{Exchange}
@@ -20,7 +21,7 @@ use Rattle.model.specs.declared.Heard.the-variants.{Nothing, Unsound, Ma
 use Rattle.model.specs.Layout.{Areas}
 use Rattle.model.specs.Ports.{codeOf, Effect, untouched}
 use Rattle.model.specs.Lines.{exempt, trusted, observed}
-use Rattle.model.specs.Event.{sinkFor, pollsUs, answerTo, exchangeFor, timesRestarted, judgedOne, isBad, raiseAll, when, waitsFor}
+use Rattle.model.specs.Event.{sinkFor, pollsUs, answerTo, exchangeFor, timesRestarted, judgedOne, raiseAll, when, waitsFor}
 use Rattle.model.specs.Event.{isDone, raisedByReply, taken, ruled, World, brings, brought, heardBy, event, hearController}
 use Rattle.model.specs.Event.{hearEffect, hearAnswer}
 
@@ -51,7 +52,7 @@ abbrev pub countsAfter : Counts → Heard → Counts
 countsAfter n Nothing = n
 countsAfter n Unsound = judgedOne true n
 countsAfter n (Master w) = judgedOne false n
-countsAfter n (Reply w j) = judgedOne (isBad j) n
+countsAfter n (Reply w j) = judgedOne (not (isSound j)) n
 countsAfter n Stray = n
 
 -- EMF for an unsound master; DMF if a sound one finds an equal word waited for; SFC for every slave frame; DSF too if done and less
@@ -79,7 +80,7 @@ abbrev pub disturbs : Heard → Bool
 disturbs Nothing = false
 disturbs Unsound = true
 disturbs (Master w) = false
-disturbs (Reply w j) = isBad j && not (exempt (codeOf w))
+disturbs (Reply w j) = not (isSound j) && not (exempt (codeOf w))
 disturbs Stray = false
 
 abbrev pub polls : Device → Heard → Bool

@@ -14,7 +14,7 @@ use Rattle.frames.specs.declared.Hearing.{Hearing}
 use Rattle.frames.specs.declared.Judgement.{Judgement}
 use Rattle.frames.specs.declared.Judgement.the-variants.{Sound, Unsound as Bad}
 use Rattle.frames.specs.Hearing.{wordsOf}
-use Rattle.frames.specs.Judge.{judgedMaster, judgedSlave}
+use Rattle.frames.specs.Judge.{judgedMaster, judgedSlave, isSound}
 use Rattle.interrupts.specs.Names.{SFC}
 use Rattle.model.specs.declared.Exchange.{Exchange}
 use Rattle.model.specs.declared.Exchange.the-variants.{Idle, Waiting, Done}
@@ -24,7 +24,7 @@ use Rattle.model.specs.Ports.{codeOf, addressOf, Standing, standing, vie
 use Rattle.model.specs.declared.Heard.the-variants.{Reply}
 use Rattle.model.specs.Event.{interruptOf, asMaster, asHeard, portFor, sinkFor, taken}
 use Rattle.model.specs.Taken.{still, marks, Took, takes, spares}
-use Rattle.model.specs.Past.{isSlave, isSound, isWord, takenIf}
+use Rattle.model.specs.Past.{isSlave, isWord, takenIf}
 use Rattle.model.proofs.Shape.{Shape, Valid, nothing, refill, standingAfter}
 use Rattle.model.proofs.Tables.{raised0, effectOf}
 use Rattle.model.proofs.Standings.{standing-at, distinct}

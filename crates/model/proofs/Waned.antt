@@ -12,7 +12,7 @@ use Rattle.frames.specs.declared.Kind.the-variants.{Silence, Noise, Master as M
 use Rattle.frames.specs.declared.Hearing.{Hearing}
 use Rattle.frames.specs.declared.Judgement.{Judgement}
 use Rattle.frames.specs.declared.Judgement.the-variants.{Sound, Unsound as Bad}
-use Rattle.frames.specs.Judge.{judgedMaster}
+use Rattle.frames.specs.Judge.{judgedMaster, isSound}
 use Rattle.model.specs.declared.Exchange.{Exchange}
 use Rattle.model.specs.declared.Exchange.the-variants.{Idle, Waiting, Done}
 use Rattle.model.specs.declared.Times.{Times}
@@ -21,20 +21,21 @@ use Rattle.model.specs.Layout.{Areas, portAt}
 use Rattle.model.specs.Ports.{Effect, untouched, mark, markedWords, apply}
 use Rattle.model.specs.Event.{World, asMaster, asHeard, heard, heardBy, sinkFor, hearEffect}
 use Rattle.model.specs.Quiet.{sinceLater, expired, exchangeLater, due, effectLater, ticks, tick, tickEffect, tickController}
-use Rattle.model.specs.Calls.{Call, hear, quiet, openPort, closePort, writePort, readPort, setting, effect, step}
-use Rattle.model.specs.Past.{after, Typed, Accepted, onTrusted, isSlave, isSound, awaited}
+use Rattle.model.specs.Calls.{Call, hear, effect, step}
+use Rattle.model.specs.Past.{after, Typed, Accepted, onTrusted, isSlave, awaited}
 use Rattle.model.specs.Taken.{Gentle, still, marks}
 use Rattle.model.specs.Damage.{harmless, Damaged, Damage}
 use Rattle.model.proofs.Shape.{Shape}
 use Rattle.model.proofs.Tables.{exchangeAfter, hear-controller, hear-effect}
-use Rattle.model.proofs.ButPort.{ButPort, portAffected}
-use Rattle.model.proofs.PortDoubt.{waitingPort}
+use Rattle.model.proofs.HostCalls.{Sort, event, pause, host, sort, host-undamaged}
+use Rattle.model.proofs.ButPort.{ButPort}
+use Rattle.model.proofs.PortDoubt.{waitingPort, portAffected}
 use Rattle.model.proofs.PortWords.{words-other}
 use Rattle.model.proofs.Waits.{waitNow, Live, waits-now}
 use Rattle.model.proofs.Invariant.{one-of, ToldBy}
 use Rattle.model.proofs.Told.{past-told}
 use Rattle.model.proofs.Same.{Alike, same-port}
-use Rattle.model.proofs.Damage.{gentle-late, gentle-heard, Unharmed, kept-trans, kept-tick, kept-hear, kept-stretch}
+use Rattle.model.proofs.Damage.{gentle-late, gentle-heard, Unharmed, kept-trans, kept-tick, kept-hear, kept-stretch, earlier}
 use Rattle.model.proofs.Finishes.{portIn, sinkPort, missed-port, heard-port, waiting-told}
 
 -- the word that is waited for
@@ -183,40 +184,29 @@ waned-hear past a b ty h d =
           ∙ if-slave (k .kind) _ p (sym (ap portAffected (hear-effect s a b) ∙ heard-port (s .areas) k (k .kind) (c .exchange) (c .times) (h .holds .live)) ∙ e)));
     }
 
+waned-call : (past : List Call) (c : Call) → Sort c → Typed c → ToldBy past (after past) → Damaged past c
+    → Waned (after past) (step c (after past))
+unfolding step
+waned-call past c (event {a} {b}) ty h d = waned-hear past a b ty h d
+waned-call past c (pause {n}) ty h d = waned-ticks n (after past) (h .holds .shape)
+waned-call past c (host x) ty h d = absurd (host-undamaged past c x d)
+
 waned-stretch : (before stretch : List Call) → Accepted (stretch ++ before) → Damage before stretch
     → Waned (after before) (after (stretch ++ before))
-unfolding after step
+unfolding after
 waned-stretch before [] acc d = waned-none (after before) (kept-stretch before [] acc d)
-waned-stretch before (hear a b ∷ more) acc d =
+waned-stretch before (c ∷ more) acc d =
     waned-trans _ _ _ (waned-stretch before more (acc .2) (d .1))
-    (waned-hear (more ++ before) a b (acc .0) (past-told (more ++ before) (acc .2)) (d .0))
-waned-stretch before (quiet n ∷ more) acc d =
-    waned-trans _ _ _ (waned-stretch before more (acc .2) (d .1))
-    (waned-ticks n (after (more ++ before)) (past-told (more ++ before) (acc .2) .holds .shape))
-waned-stretch before (openPort a p code sink i ∷ more) acc d = absurd (d .0)
-waned-stretch before (closePort a ∷ more) acc d = absurd (d .0)
-waned-stretch before (writePort a ws ∷ more) acc d = absurd (d .0)
-waned-stretch before (readPort a ∷ more) acc d = absurd (d .0)
-waned-stretch before (setting t ∷ more) acc d = absurd (d .0)
-
-tail-accepted : (later p : List Call) → Accepted (later ++ p) → Accepted p
-tail-accepted [] p acc = acc
-tail-accepted (c ∷ later) p acc = tail-accepted later p (acc .2)
+    (waned-call (more ++ before) c (sort c) (acc .0) (past-told (more ++ before) (acc .2)) (d .0))
 
 -- A stretch of damage changes nothing in the areas but status bits of the port whose word was waited for at its start.
 pub stretch-but : (before stretch : List Call) → Accepted (stretch ++ before) → Damage before stretch
     → ButPort (waitingPort before) (after before .areas) (after (stretch ++ before) .areas)
 stretch-but before stretch acc d =
     let k = waned-stretch before stretch acc d in
-    let h = past-told before (tail-accepted stretch before acc) in
+    let h = past-told before (earlier stretch before acc) in
     let i : waitsAt (after before) ≡ waitingPort before =
     ap (sinkPort (after before .areas))
     (sym (wait-word (after before .controller .exchange) (after before .controller .times) (h .holds .live)))
     ∙ waiting-told before h in
-    record {
-      index = k .kept .only .index;
-      page0 = k .kept .only .page0;
-      page1 = k .kept .only .page1;
-      same = λ p n. k .same p (λ e. n (sym i ∙ e));
-      only = k .kept .only .ports;
-    }
+    record { only = k .kept .only; same = λ p n. k .same p (λ e. n (sym i ∙ e)) }

@@ -209,12 +209,9 @@ outcome c s = outcomeOf (refusal c s) c s
 abbrev pub freshOver : Areas → World
 freshOver m = world freshController m
 
--- the number that a call is refused with, 0 where it is accepted, and the areas after it
+-- the number that a call is refused with, 0 where it is accepted
 unfoldable pub portRefusal : Call → Areas → ℕ
 portRefusal c m = refusal c (freshOver m)
-
-unfoldable pub portAreas : Call → Areas → Areas
-portAreas c m = outcome c (freshOver m) .world .areas
 
 -- ---- reading
 

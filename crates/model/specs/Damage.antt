@@ -9,10 +9,10 @@ use Rattle.frames.specs.declared.Kind.{Kind}
 use Rattle.frames.specs.declared.Kind.the-variants.{Silence, Noise, Master, Slave}
 use Rattle.frames.specs.declared.Hearing.{Hearing}
 use Rattle.frames.specs.declared.Judgement.the-variants.{Sound}
-use Rattle.frames.specs.Judge.{judgedMaster, judgedSlave}
+use Rattle.frames.specs.Judge.{judgedMaster, judgedSlave, isSound}
 use Rattle.model.specs.Ports.{codeOf}
 use Rattle.model.specs.Calls.{Call}
-use Rattle.model.specs.Past.{Happening, hears, passes, sets, changes, happening, OfHeard, isSound, awaited}
+use Rattle.model.specs.Past.{Happening, hears, passes, sets, changes, happening, OfHeard, awaited}
 
 -- no sound master frame, nor a slave frame sound for the code of the word o that is waited for
 abbrev pub harmless : Kind → Option ℕ → Hearing → Bool

@@ -3,7 +3,7 @@
 -- poll replies. Host calls after it are the same in both runs." Pasts have the newest call first. Assumes nothing.
 use Prim.Native.Nat.{ℕ}
 use mathlib.Core.Path.{_≡_}
-use mathlib.Core.Bool.{Bool, true, false, cond, _&&_}
+use mathlib.Core.Bool.{Bool, true, false, cond, not, _&&_}
 use mathlib.Core.List.{List, [], _∷_, _++_}
 use mathlib.Core.Option.{Option, none, some}
 use lib.Dec.{eqb}
@@ -11,6 +11,7 @@ use Rattle.frames.specs.declared.Hearing.{Hearing}
 use Rattle.model.specs.Layout.{Areas, entry, portAt}
 use Rattle.model.specs.Ports.{codeOf, addressOf, hasPorts, view}
 use Rattle.model.specs.Event.{World}
+use Rattle.model.specs.Quiet.{isSome}
 use Rattle.model.specs.Calls.{Call, hear, answer}
 use Rattle.model.specs.Past.{Change, keeps, opens, closes, writes, Happening, hears, passes, sets, changes, happening, onTrusted}
 use Rattle.model.specs.Past.{isSlave, firstWord, isWord, awaited, Opening, openingOf}
@@ -54,11 +55,6 @@ sinkAt past (some w) = cond (isSinkOf w (openingOf past (addressOf w))) (some (a
 unfoldable pub waitingAddress : List Call → Option ℕ
 waitingAddress past = sinkAt past (awaited past 0)
 
--- nothing is waited for any more
-abbrev pub isOver : Option ℕ → Bool
-isOver none = true
-isOver (some w) = false
-
 -- opening, closing and writing set the status bits
 abbrev pub touches : Change → Bool
 touches keeps = false
@@ -70,7 +66,7 @@ touches (writes ws) = true
 -- status bits too
 abbrev pub finishedBy : List Call → Happening → ℕ → Bool
 finishedBy past (hears x y) a = isSlave (onTrusted past x y .kind) && isWord (waitingAddress past) a
-finishedBy past (passes n) a = isOver (awaited past n) && isWord (waitingAddress past) a
+finishedBy past (passes n) a = not (isSome (awaited past n)) && isWord (waitingAddress past) a
 finishedBy past (sets t) a = false
 finishedBy past (changes f) a = touches (f a)
 

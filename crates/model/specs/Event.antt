@@ -14,7 +14,7 @@ use Rattle.frames.specs.declared.Judgement.{Judgement}
 use Rattle.frames.specs.declared.Judgement.the-variants.{Sound, Unsound as Bad}
 use Rattle.frames.specs.Hearing.{wordsOf}
 use Rattle.frames.specs.Size.{expectedOf}
-use Rattle.frames.specs.Judge.{judgedMaster, judgedSlave}
+use Rattle.frames.specs.Judge.{judgedMaster, judgedSlave, isSound}
 use Rattle.interrupts.specs.declared.Group.{Group}
 use Rattle.interrupts.specs.Group.{raised}
 use Rattle.interrupts.specs.Names.{EMF, ESF, DMF, DSF, SFC, FEV, dataTransfer}
@@ -120,33 +120,18 @@ exchangeFor d m w = awaits (expectedOf (codeOf w)) w (answerTo d m w)
 abbrev pub padded : List ℕ → List ℕ
 padded ws = sets (replicate 16 0) 0 ws
 
--- a slave frame of these words with its check bytes and no quality mark
+-- these words with these check bytes and no quality mark
+abbrev pub unmarked : Kind → List ℕ → List ℕ → ℕ → Hearing
+unmarked k ws checks n =
+    record { kind = k; words = padded ws; size = length ws; checks = checks; ends = n; sqe = false; violation = false; alo = false }
+
+-- a slave frame of these words with its check bytes
 unfoldable pub sent : List ℕ → Hearing
-sent ws =
-    record {
-      kind = SlaveFrame;
-      words = padded ws;
-      size = length ws;
-      checks = frameChecks ws .bytes;
-      ends = frameChecks ws .count;
-      sqe = false;
-      violation = false;
-      alo = false;
-    }
+sent ws = unmarked SlaveFrame ws (frameChecks ws .bytes) (frameChecks ws .count)
 
 -- no reply
 unfoldable pub silent : Hearing
-silent =
-    record {
-      kind = Silence;
-      words = replicate 16 0;
-      size = 0;
-      checks = replicate 4 0;
-      ends = 0;
-      sqe = false;
-      violation = false;
-      alo = false;
-    }
+silent = unmarked Silence [] (replicate 4 0) 0
 
 abbrev pub spoken : Option (List ℕ) → Hearing
 spoken none = silent
@@ -162,10 +147,6 @@ timesRestarted t = record { since = 0; line = 0; chosen = t .chosen; adopted = t
 abbrev pub judgedOne : Bool → Counts → Counts
 judgedOne unsound n =
     record { fc = (n .fc + 1) % 65536; ec = cond (unsound && ltb (n .ec) 65535) (n .ec + 1) (n .ec) }
-
-abbrev pub isBad : Judgement → Bool
-isBad Sound = false
-isBad (Bad crc) = true
 
 -- bits raised one after the other
 abbrev pub raiseAll : List ℕ → Group → Group
@@ -187,10 +168,13 @@ isDone Idle = false
 isDone (Waiting w) = false
 isDone Done = true
 
--- a port's data transfer interrupt, if it has one
+-- a data transfer interrupt, 0 for none
+abbrev pub transferBit : ℕ → List ℕ
+transferBit i = when (not (eqb i 0)) (dataTransfer i)
+
 abbrev pub interruptOf : Option Standing → List ℕ
 interruptOf none = []
-interruptOf (some v) = when (not (eqb (v .interrupt) 0)) (dataTransfer (v .interrupt))
+interruptOf (some v) = transferBit (v .interrupt)
 
 -- the slave frame that is judged: ESF if it is unsound, else the interrupt of the port that it fills
 abbrev pub raisedByReply : Areas → ℕ → Judgement → List ℕ
@@ -217,33 +201,27 @@ pub record Brings : Type 0 where
   pub effect : Effect
   pub answer : Option (List ℕ)
 
+-- what no port of ours plays a part in: the times and the areas stay, and nothing is replied
+abbrev pub aside : Controller → Exchange → List ℕ → Option Bool → Bool → Brings
+aside c x bits unsound disturbed =
+    record {
+      exchange = x;
+      times = c .times;
+      raises = bits;
+      judged = unsound;
+      disturbs = disturbed;
+      polls = false;
+      effect = untouched;
+      answer = none;
+    }
+
 -- One equation for each thing that the trusted line may have heard. Nothing: silence or noise is ignored. Unsound: an unsound master
--- frame, EMF and idle. Master: a sound master frame, DMF if an equal word is waited for. Reply: a slave frame while waiting, SFC and done;
--- it disturbs if it is unsound and the waiting code is not 9, 13 or 14. Stray: a slave frame while idle or done, SFC, and DSF too if done
--- and less than the reply time has passed since the last sound master
+-- frame, EMF and idle; it disturbs. Master: a sound master frame, DMF if an equal word is waited for. Reply: a slave frame while waiting,
+-- SFC and done; it disturbs if it is unsound and the waiting code is not 9, 13 or 14. Stray: a slave frame while idle or done, SFC, and
+-- DSF too if done and less than the reply time has passed since the last sound master; it is not judged
 abbrev pub brings : Controller → Areas → Hearing → Heard → Brings
-brings c m h Nothing =
-    record {
-      exchange = c .exchange;
-      times = c .times;
-      raises = [];
-      judged = none;
-      disturbs = false;
-      polls = false;
-      effect = untouched;
-      answer = none;
-    }
-brings c m h Unsound =
-    record {
-      exchange = Idle;
-      times = c .times;
-      raises = EMF ∷ [];
-      judged = some true;
-      disturbs = true;
-      polls = false;
-      effect = untouched;
-      answer = none;
-    }
+brings c m h Nothing = aside c (c .exchange) [] none false
+brings c m h Unsound = aside c Idle (EMF ∷ []) (some true) true
 brings c m h (Master w) =
     record {
       exchange = exchangeFor (c .device) m w;
@@ -260,23 +238,14 @@ brings c m h (Reply w j) =
       exchange = Done;
       times = c .times;
       raises = SFC ∷ raisedByReply m w j;
-      judged = some (isBad j);
-      disturbs = isBad j && not (exempt (codeOf w));
+      judged = some (not (isSound j));
+      disturbs = not (isSound j) && not (exempt (codeOf w));
       polls = false;
       effect = taken (sinkFor m w) j h;
       answer = none;
     }
 brings c m h Stray =
-    record {
-      exchange = c .exchange;
-      times = c .times;
-      raises = SFC ∷ when (isDone (c .exchange) && ltb (c .times .since) (c .times .adopted)) DSF;
-      judged = none;  -- it is not judged
-      disturbs = false;
-      polls = false;
-      effect = untouched;
-      answer = none;
-    }
+    aside c (c .exchange) (SFC ∷ when (isDone (c .exchange) && ltb (c .times .since) (c .times .adopted)) DSF) none false
 
 -- the counts after it, and FEV when FC returns to 0
 abbrev pub counting : Option Bool → Counts → Counts

@@ -15,7 +15,7 @@ use Rattle.frames.specs.declared.Judgement.{Judgement}
 use Rattle.frames.specs.declared.Judgement.the-variants.{Sound, Unsound}
 use Rattle.frames.specs.Hearing.{wordsOf}
 use Rattle.frames.specs.Size.{expectedOf}
-use Rattle.frames.specs.Judge.{judgedMaster, judgedSlave}
+use Rattle.frames.specs.Judge.{judgedMaster, judgedSlave, isSound}
 use Rattle.model.specs.Ports.{masterWord, codeOf, addressOf, hasPorts, View, refilled}
 use Rattle.model.specs.Lines.{trusted}
 use Rattle.model.specs.Event.{World}
@@ -105,38 +105,29 @@ isSlave Noise = false
 isSlave Master = false
 isSlave Slave = true
 
-abbrev pub isSound : Judgement → Bool
-isSound Sound = true
-isSound (Unsound crc) = false
-
 -- the master word of a master frame
 abbrev pub firstWord : Hearing → ℕ
 firstWord h = getD (h .words) 0 0
 
 -- ---- the host's settings
 
-abbrev pub isReset : Setting → Bool
-isReset (address a) = false
-isReset (status w) = false
-isReset (replyTime t) = false
-isReset (slm b) = false
-isReset (ls b) = false
-isReset clearEC = false
-isReset reset = true
-isReset (group0 g) = false
-isReset (group1 g) = false
+-- a reset clears all; the host's call clears EC, if that is what is asked about
+abbrev pub clears : Bool → Setting → Bool
+clears ec (address a) = false
+clears ec (status w) = false
+clears ec (replyTime t) = false
+clears ec (slm b) = false
+clears ec (ls b) = false
+clears ec clearEC = ec
+clears ec reset = true
+clears ec (group0 g) = false
+clears ec (group1 g) = false
 
--- EC is cleared, by the host's call or by a reset
-abbrev pub clears : Setting → Bool
-clears (address a) = false
-clears (status w) = false
-clears (replyTime t) = false
-clears (slm b) = false
-clears (ls b) = false
-clears clearEC = true
-clears reset = true
-clears (group0 g) = false
-clears (group1 g) = false
+abbrev pub isReset : Setting → Bool
+isReset t = clears false t
+
+abbrev pub clearsEC : Setting → Bool
+clearsEC t = clears true t
 
 -- what the settings of a past leave: the device address, the status word last set, if one was, and the chosen reply time
 pub record Settings : Type 0 where
@@ -196,16 +187,16 @@ openingOf [] a = none
 openingOf (c ∷ past) a = leaves (changeOf (happening c) a) (openingOf past a)
 
 -- what the host writes is added, and an opening begins anew
-abbrev pub written : Change → List (List ℕ) → List (List ℕ)
-written keeps l = l
-written (opens x) l = []
-written closes l = l
-written (writes ws) l = ws ∷ l
+abbrev pub writtenBy : Change → List (List ℕ) → List (List ℕ)
+writtenBy keeps l = l
+writtenBy (opens x) l = []
+writtenBy closes l = l
+writtenBy (writes ws) l = ws ∷ l
 
 -- the words that the host wrote to address a since it was opened, the newest first
 unfoldable pub writesSince : List Call → ℕ → List (List ℕ)
 writesSince [] a = []
-writesSince (c ∷ past) a = written (changeOf (happening c) a) (writesSince past a)
+writesSince (c ∷ past) a = writtenBy (changeOf (happening c) a) (writesSince past a)
 
 -- the last of them, or that there was none
 abbrev pub lastOf : List (List ℕ) → Option (List ℕ)
@@ -371,4 +362,4 @@ framesJudged past = countSince isReset addJudged past
 
 -- unsound ones since EC was last cleared
 unfoldable pub framesUnsound : List Call → ℕ
-framesUnsound past = countSince clears addUnsound past
+framesUnsound past = countSince clearsEC addUnsound past

@@ -7,14 +7,14 @@ use mathlib.Core.Bool.{Bool, true, false, _&&_}
 use mathlib.Core.Option.{some}
 use Rattle.frames.specs.declared.Hearing.{Hearing}
 use Rattle.frames.specs.Hearing.{wordsOf}
-use Rattle.frames.specs.Judge.{judgedSlave}
+use Rattle.frames.specs.Judge.{judgedSlave, isSound}
 use Rattle.model.specs.declared.Controller.{Controller}
 use Rattle.model.specs.declared.Faults.{Faults}
 use Rattle.model.specs.Layout.{Areas, portAt}
 use Rattle.model.specs.Ports.{codeOf, Standing, standing, markedWords, Effect, untouched, fill, mark}
 use Rattle.model.specs.Lines.{trusted}
 use Rattle.model.specs.Event.{waitsFor}
-use Rattle.model.specs.Past.{isSlave, isSound}
+use Rattle.model.specs.Past.{isSlave}
 
 -- the trusted line heard a slave frame that is sound for the master word w, and w is waited for
 abbrev pub answersNow : Controller → Hearing → Hearing → ℕ → Bool

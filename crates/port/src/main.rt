@@ -1,4 +1,4 @@
-// The port program (document 01, "Numbers on either side"): what `session::run::run` promises of standard input, on standard output.
+// The port program (document 01, "Numbers on either side"): what `port_run::run::run` promises of standard input, on standard output.
 //
 // Nothing is cut: input of 65,536 bytes or more, or output of more than 65,536, is not taken, and a line on standard error says so. Every
 // function is proved to be safe and to end; what is printed of an input is the promise of `run`.
@@ -29,6 +29,6 @@ fn main() {
         return;
     }
     let mut out = io::large_buffer();
-    let length = session::run::run(&input[..n], &mut out);
+    let length = port_run::run::run(&input[..n], &mut out);
     print_first(&out, length);
 }

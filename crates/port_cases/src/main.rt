@@ -24,7 +24,7 @@ fn run_file(fd: i32) {
         return;
     }
     let mut out = io::large_buffer();
-    let length = session::run::run(&input[..n], &mut out);
+    let length = port_run::run::run(&input[..n], &mut out);
     print_first(&out, length);
 }
 

@@ -1,4 +1,4 @@
--- `ports::layout::fits` is the defined test: from what `both` ensures. Assumes nothing.
+-- `areas::layout::fits` is the defined test: from what `both` ensures. Assumes nothing.
 use borrow.Author.Needs.{needs}
 use Rattle.model.specs.Layout.{areasFit}
 use Rattle.areas.proofs.layout.fits.Statement.{statement}

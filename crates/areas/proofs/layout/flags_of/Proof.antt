@@ -1,4 +1,4 @@
--- `ports::layout::flags_of` gives the defined flags, bit by bit. Assumes nothing.
+-- `areas::layout::flags_of` gives the defined flags, bit by bit. Assumes nothing.
 use mathlib.Core.Path.{refl}
 use Rattle.model.specs.Layout.{bitAt, flagsOf}
 use Rattle.areas.proofs.layout.flags_of.Statement.{statement}

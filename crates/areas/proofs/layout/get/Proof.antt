@@ -1,4 +1,4 @@
--- `ports::layout::get` reads the word, and 0 past the end. Assumes nothing.
+-- `areas::layout::get` reads the word, and 0 past the end. Assumes nothing.
 use mathlib.Core.Path.{sym}
 use denote.Ref.{now}
 use borrow.Author.Needs.{needs}

@@ -1,4 +1,4 @@
--- `ports::layout::get_port` gives the defined words: from what `get` ensures. Assumes nothing.
+-- `areas::layout::get_port` gives the defined words: from what `get` ensures. Assumes nothing.
 use borrow.Author.Needs.{needs}
 use Rattle.model.specs.Layout.{wordsAt}
 use Rattle.areas.proofs.layout.get_port.Statement.{statement}

@@ -1,4 +1,4 @@
--- `ports::layout::put` replaces the word, and nothing past the end. Assumes nothing.
+-- `areas::layout::put` replaces the word, and nothing past the end. Assumes nothing.
 use mathlib.Core.Path.{sym}
 use borrow.Author.Needs.{needs}
 use lib.Seq.{set-out}

@@ -1,4 +1,4 @@
--- `ports::layout::put_port` leaves the defined port words: from what `put` ensures. Assumes nothing.
+-- `areas::layout::put_port` leaves the defined port words: from what `put` ensures. Assumes nothing.
 use borrow.Author.Needs.{needs}
 use Rattle.model.specs.Layout.{withWords}
 use Rattle.areas.proofs.layout.put_port.Statement.{statement}

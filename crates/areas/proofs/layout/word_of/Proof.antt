@@ -1,4 +1,4 @@
--- `ports::layout::word_of` gives the defined word: from what `flag_part` ensures of each flag. Assumes nothing.
+-- `areas::layout::word_of` gives the defined word: from what `flag_part` ensures of each flag. Assumes nothing.
 use borrow.Author.Needs.{needs}
 use Rattle.model.specs.Layout.{wordOf}
 use Rattle.areas.proofs.layout.word_of.Statement.{statement}

@@ -1,4 +1,4 @@
--- `ports::port::part` is the defined part: by whether the page ends before the part, in it, or behind it. Assumes nothing.
+-- `areas::port::part` is the defined part: by whether the page ends before the part, in it, or behind it. Assumes nothing.
 use Prim.Native.Nat.{_-_}
 use mathlib.Core.Path.{_≡_, refl, sym, _∙_}
 use native.Mathlib.Nat.{add-sub-cancel-left}

@@ -1,4 +1,4 @@
--- `ports::port::port_size` gives the defined size: by what is expected of the F-code. Assumes nothing.
+-- `areas::port::port_size` gives the defined size: by what is expected of the F-code. Assumes nothing.
 use mathlib.Core.Path.{sym, _∙_, ap}
 use borrow.Author.Needs.{needs}
 use Rattle.frames.specs.Size.{wordsSaid}

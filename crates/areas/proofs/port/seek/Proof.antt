@@ -1,4 +1,4 @@
--- `ports::port::seek` finds what the definition says: from what its callees ensure. Assumes nothing.
+-- `areas::port::seek` finds what the definition says: from what its callees ensure. Assumes nothing.
 use borrow.Author.Needs.{needs}
 use Rattle.model.specs.Ports.{seek}
 use Rattle.areas.proofs.port.seek.Statement.{statement}

@@ -1,4 +1,4 @@
--- `ports::port::state_of` gives the defined state: from what its callees ensure. Assumes nothing.
+-- `areas::port::state_of` gives the defined state: from what its callees ensure. Assumes nothing.
 use borrow.Author.Needs.{needs}
 use Rattle.model.specs.Ports.{stateOf}
 use Rattle.areas.proofs.port.state_of.Statement.{statement}

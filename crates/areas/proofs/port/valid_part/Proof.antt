@@ -1,4 +1,4 @@
--- `ports::port::valid_part` is the part of the page that VP names: one page in each arm. Assumes nothing.
+-- `areas::port::valid_part` is the part of the page that VP names: one page in each arm. Assumes nothing.
 use borrow.Author.Needs.{needs}
 use Rattle.areas.proofs.port.valid_part.Statement.{statement}
 use Rattle.areas.proofs.port.valid_part.Tie as tie

@@ -1,4 +1,4 @@
--- `ports::port::valid_words` are the defined words: from what its callees ensure. Assumes nothing.
+-- `areas::port::valid_words` are the defined words: from what its callees ensure. Assumes nothing.
 use borrow.Author.Needs.{needs}
 use Rattle.areas.proofs.port.valid_words.Statement.{statement}
 use Rattle.areas.proofs.port.valid_words.Tie as tie

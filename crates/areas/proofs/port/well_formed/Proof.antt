@@ -1,4 +1,4 @@
--- `ports::port::well_formed` is the defined test: from what its callees ensure. Assumes nothing.
+-- `areas::port::well_formed` is the defined test: from what its callees ensure. Assumes nothing.
 use borrow.Author.Needs.{needs}
 use Rattle.model.specs.Layout.{zeroBits}
 use Rattle.model.specs.Ports.{wellFormed}

@@ -1,4 +1,4 @@
--- `ports::store::copy` leaves the page as defined. The loop's invariant: storing what is left in the page so far gives the whole.
+-- `areas::store::copy` leaves the page as defined. The loop's invariant: storing what is left in the page so far gives the whole.
 -- Assumes nothing.
 use Prim.Native.Nat.{ℕ, _+_, _-_, _≤_, _<_}
 use mathlib.Core.Path.{_≡_, refl, _∙_}

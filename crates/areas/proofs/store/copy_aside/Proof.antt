@@ -1,4 +1,4 @@
--- `ports::store::copy_aside` changes the page that is not valid: one page in each arm. Assumes nothing.
+-- `areas::store::copy_aside` changes the page that is not valid: one page in each arm. Assumes nothing.
 use borrow.Author.Needs.{needs}
 use Rattle.areas.proofs.store.copy_aside.Statement.{statement}
 use Rattle.areas.proofs.store.copy_aside.Tie as tie

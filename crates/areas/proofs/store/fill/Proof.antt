@@ -1,4 +1,4 @@
--- `ports::store::fill` leaves the areas as defined: from what its callees ensure. Assumes nothing.
+-- `areas::store::fill` leaves the areas as defined: from what its callees ensure. Assumes nothing.
 use borrow.Author.Needs.{needs}
 use Rattle.model.specs.Ports.{filled}
 use Rattle.areas.proofs.store.fill.Statement.{statement}

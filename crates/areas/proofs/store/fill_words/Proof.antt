@@ -1,4 +1,4 @@
--- `ports::store::fill_words` gives the defined words: from what its callees ensure. Assumes nothing.
+-- `areas::store::fill_words` gives the defined words: from what its callees ensure. Assumes nothing.
 use borrow.Author.Needs.{needs}
 use Rattle.model.specs.Ports.{filledWords}
 use Rattle.areas.proofs.store.fill_words.Statement.{statement}

@@ -1,4 +1,4 @@
--- `ports::store::mark` leaves the defined port words: from what its callees ensure. Assumes nothing.
+-- `areas::store::mark` leaves the defined port words: from what its callees ensure. Assumes nothing.
 use borrow.Author.Needs.{needs}
 use Rattle.areas.proofs.store.mark.Statement.{statement}
 use Rattle.areas.proofs.store.mark.Tie as tie

@@ -1,4 +1,4 @@
--- `ports::store::mark_words` gives the defined words: from what its callees ensure. Assumes nothing.
+-- `areas::store::mark_words` gives the defined words: from what its callees ensure. Assumes nothing.
 use borrow.Author.Needs.{needs}
 use Rattle.model.specs.Ports.{markedWords}
 use Rattle.areas.proofs.store.mark_words.Statement.{statement}

@@ -1,4 +1,4 @@
--- `ports::store::turn` gives the defined flags. Assumes nothing.
+-- `areas::store::turn` gives the defined flags. Assumes nothing.
 use borrow.Author.Needs.{needs}
 use Rattle.areas.proofs.store.turn.Statement.{statement}
 use Rattle.areas.proofs.store.turn.Tie as tie

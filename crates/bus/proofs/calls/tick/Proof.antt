@@ -1,9 +1,9 @@
 -- `bus::calls::tick`: one bit time, for the sink first and then for the controller, which asks nothing of the areas. Assumes nothing.
 use Rattle.model.specs.Event.{world}
 use Rattle.model.specs.Quiet.{tick, tickEffect}
-use Rattle.timing.proofs.BitTime.{tick-controller}
+use Rattle.bus_quiet.proofs.BitTime.{tick-controller}
 use Rattle.areas.specs.Lent.{lent}
-use Rattle.answering.proofs.Ports.{late-found}
+use Rattle.bus_ports.proofs.Ports.{late-found}
 use borrow.Author.Needs.{needs}
 use Rattle.bus.proofs.calls.tick.Statement.{statement}
 use Rattle.bus.proofs.calls.tick.Tie as tie

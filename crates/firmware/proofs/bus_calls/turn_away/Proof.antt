@@ -1,7 +1,6 @@
 -- `bus_calls::turn_away` meets its contract: its parts are what the callees ensure. Assumes nothing.
 use Rattle.firmware.proofs.Short.{Small, silent-small}
 use mathlib.Core.Path.{sym, subst}
-use Rattle.frames.specs.declared.Hearing.{Hearing}
 use Rattle.firmware.proofs.bus_calls.turn_away.Statement.{statement}
 use Rattle.firmware.proofs.bus_calls.turn_away.Tie as tie
 

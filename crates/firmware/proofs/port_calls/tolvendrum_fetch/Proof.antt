@@ -15,13 +15,13 @@ cast-t14 : tie.Need-cast-t14
 cast-t14 c =
     let called = c .before .before .before in
     let a = called .before .before .before .before .before .before .before .args in
-    omega (arith, fetched-short (lent (a .index) (a .ports) (a .page0) (a .page1)) (a .a), ap length (called .fetch .ensures .0))
+    omega (arith, fetched-short (lent (a .index) (a .ports) (a .page0) (a .page1)) (a .a), ap length (called .part .ensures))
 
 returns : tie.Need-returns
 unfolding fetching withPart
 returns c =
     let called = c .before .before .before in
-    rw (c .before .copy .ensures, called .fetch .ensures .0, called .before .refusal-of .ensures, called .before .before .ask .ensures .0)
+    rw (c .before .copy .ensures, called .part .ensures, called .before .refusal-of .ensures, called .before .before .ask .ensures)
 
 pub tolvendrum-fetch-spec : {M : Type 1} → statement M
 tolvendrum-fetch-spec = tie.close (tie.spec (λ c κs. tt) (λ c κs. tt) (λ c κs. tt) (λ c. search needs) (λ c κs. tt) cast-t14 returns)

@@ -1,6 +1,6 @@
 -- `reply::flat_hearing` meets its contract: its parts are what the callees ensure, and the counts are small. Assumes nothing.
 use native.Mathlib.Omega.{arith}
-use Rattle.flat.specs.Hearing.{flatHearing}
+use Rattle.firmware_layout.specs.Hearing.{flatHearing}
 use Rattle.firmware.proofs.reply.flat_hearing.Statement.{statement}
 use Rattle.firmware.proofs.reply.flat_hearing.Tie as tie
 

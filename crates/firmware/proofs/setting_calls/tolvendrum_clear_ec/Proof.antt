@@ -1,6 +1,6 @@
 -- `setting_calls::tolvendrum_clear_ec` meets its contract: its parts are what the callees ensure. Assumes nothing.
 use Rattle.firmware.specs.Promise.{setThrough}
-use Rattle.controller.specs.Settings.{toldFor}
+use Rattle.host_controller.specs.Settings.{toldFor}
 use Rattle.firmware.proofs.setting_calls.tolvendrum_clear_ec.Statement.{statement}
 use Rattle.firmware.proofs.setting_calls.tolvendrum_clear_ec.Tie as tie
 

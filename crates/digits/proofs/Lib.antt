@@ -1,5 +1,0 @@
-pub mod Cutting
-pub mod Items
-pub mod Pasting
-pub mod Limits
-pub mod Back

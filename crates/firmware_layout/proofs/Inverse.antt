@@ -1,0 +1,157 @@
+-- The conversions are each other's inverse: a controller of ours comes back from its numbers, and numbers of ours from their controller;
+-- and
+-- so do hearings. Part by part, flags and stages by their few values. Assumes nothing.
+use Prim.Native.Nat.{ℕ, zero, suc}
+use mathlib.Core.Path.{_≡_, refl}
+use mathlib.Core.Bool.{Bool, true, false, _&&_, _||_}
+use native.Mathlib.Omega.{arith}
+use lib.Dec.{eqb, leb}
+use borrow.Author.Tests.{eqb-true, leb-true}
+use Rattle.interrupts.specs.declared.Group.{Group}
+use Rattle.interrupts.specs.Names.{used0, used1}
+use Rattle.frames.specs.declared.Kind.{Kind}
+use Rattle.frames.specs.declared.Kind.the-variants.{Silence, Noise, Master, Slave}
+use Rattle.frames.specs.declared.Hearing.{Hearing}
+use Rattle.model.specs.declared.Exchange.{Exchange}
+use Rattle.model.specs.declared.Exchange.the-variants.{Idle, Waiting, Done}
+use Rattle.model.specs.declared.Lines.{Lines}
+use Rattle.model.specs.declared.Controller.{Controller}
+use Rattle.model.proofs.Accepted.{both-hold}
+use Rattle.firmware_layout.specs.declared.FlatLines.{FlatLines}
+use Rattle.firmware_layout.specs.declared.FlatGroup.{FlatGroup}
+use Rattle.firmware_layout.specs.declared.FlatDevice.{FlatDevice}
+use Rattle.firmware_layout.specs.declared.FlatController.{FlatController}
+use Rattle.firmware_layout.specs.declared.FlatHearing.{FlatHearing}
+use Rattle.firmware_layout.specs.Flags.{bitOf, isBit, isSet}
+use Rattle.firmware_layout.specs.Controller.{flatExchange, exchangeOf, exchangeOurs, timesOurs, flatLines, linesOf, linesOurs, flatGroup}
+use Rattle.firmware_layout.specs.Controller.{groupOf, inside, groupOurs, flatDevice, deviceOf, deviceOurs, flat, controllerOf, ours}
+use Rattle.firmware_layout.specs.Hearing.{kindNumber, kindOf, flatHearing, hearingOf, formed}
+
+-- ---- flags
+
+pub set-bit : (b : Bool) → isSet (bitOf b) ≡ b
+set-bit true = refl
+set-bit false = refl
+
+pub bit-bit : (b : Bool) → isBit (bitOf b) ≡ true
+bit-bit true = refl
+bit-bit false = refl
+
+bit-set : (x : ℕ) → isBit x ≡ true → bitOf (isSet x) ≡ x
+bit-set zero e = refl
+bit-set (suc zero) e = refl
+bit-set (suc (suc x)) e = absurd (omega (arith, leb-true (suc (suc x)) 1 e))
+
+-- ---- the parts of numbers of ours
+
+pub record Parts (f : FlatController) : Type 0 where
+  pub exchange : exchangeOurs (f .exchange) ≡ true
+  pub times : timesOurs (f .times) ≡ true
+  pub lines : linesOurs (f .lines) ≡ true
+  pub group0 : groupOurs used0 (f .group0) ≡ true
+  pub group1 : groupOurs used1 (f .group1) ≡ true
+  pub device : deviceOurs (f .device) ≡ true
+
+pub parts : (f : FlatController) → ours f ≡ true → Parts f
+unfolding ours
+parts f e =
+    let d = both-hold _ _ e in
+    let g1 = both-hold _ _ (d .0) in
+    let g0 = both-hold _ _ (g1 .0) in
+    let l = both-hold _ _ (g0 .0) in
+    let t = both-hold _ _ (l .0) in
+    record { exchange = t .0; times = t .1; lines = l .1; group0 = g0 .1; group1 = g1 .1; device = d .1 }
+
+-- ---- from the numbers and back
+
+exchange-numbers : (s w : ℕ) → (leb s 2 && (eqb s 1 || eqb w 0)) ≡ true
+    → flatExchange (exchangeOf (record { stage = s; word = w })) ≡ record { stage = s; word = w }
+exchange-numbers zero w e = rw (eqb-true w 0 e)
+exchange-numbers (suc zero) w e = refl
+exchange-numbers (suc (suc zero)) w e = rw (eqb-true w 0 e)
+exchange-numbers (suc (suc (suc s))) w e = absurd (omega (arith, leb-true (suc (suc (suc s))) 2 (both-hold _ _ e .0)))
+
+lines-numbers : (f : FlatLines) → linesOurs f ≡ true → flatLines (linesOf f) ≡ f
+lines-numbers f e =
+    let s = both-hold _ _ e in
+    let l = both-hold _ _ (s .0) in
+    let r = both-hold _ _ (l .0) in
+    rw (bit-set (f .laa) (r .0), bit-set (f .rld) (r .1), bit-set (f .ls) (l .1), bit-set (f .slm) (s .1))
+
+group-numbers : (u : ℕ) (f : FlatGroup) → groupOurs u f ≡ true → flatGroup (groupOf u f) ≡ f
+group-numbers u f e =
+    let settled = both-hold _ (isSet (f .frozen) || eqb (f .pending) 0) e in
+    let flag = both-hold (inside u (f .pending) && inside u (f .mask) && inside u (f .status)) (isBit (f .frozen)) (settled .0) in
+    rw (bit-set (f .frozen) (flag .1))
+
+device-numbers : (f : FlatDevice) → deviceOurs f ≡ true → flatDevice (deviceOf f) ≡ f
+device-numbers f e =
+    let told = both-hold _ (isSet (f .set) || eqb (f .status) 0) e in
+    let flag = both-hold (leb (f .address) 4095) (isBit (f .set)) (told .0) in
+    rw (bit-set (f .set) (flag .1))
+
+-- Numbers of ours come back from their controller.
+pub same-numbers : (f : FlatController) → ours f ≡ true → flat (controllerOf f) ≡ f
+unfolding flat controllerOf
+same-numbers f e =
+    let p = parts f e in
+    rw (
+      exchange-numbers (f .exchange .stage) (f .exchange .word) (p .exchange),
+      lines-numbers (f .lines) (p .lines),
+      group-numbers used0 (f .group0) (p .group0),
+      group-numbers used1 (f .group1) (p .group1),
+      device-numbers (f .device) (p .device),
+    )
+
+-- ---- from the controller and back
+
+exchange-back : (x : Exchange) → exchangeOf (flatExchange x) ≡ x
+exchange-back Idle = refl
+exchange-back (Waiting w) = refl
+exchange-back Done = refl
+
+lines-back : (l : Lines) → linesOf (flatLines l) ≡ l
+lines-back l = rw (set-bit (l .laa), set-bit (l .rld), set-bit (l .ls), set-bit (l .slm))
+
+group-back : (u : ℕ) (g : Group) → g .used ≡ u → groupOf u (flatGroup g) ≡ g
+group-back u g e = rw (set-bit (g .frozen), ← e)
+
+-- A controller whose groups are group 0 and group 1 comes back from its numbers.
+pub same-controller : (c : Controller) → c .group0 .used ≡ used0 → c .group1 .used ≡ used1 → controllerOf (flat c) ≡ c
+unfolding flat controllerOf
+same-controller c e0 e1 =
+    rw (
+      exchange-back (c .exchange),
+      lines-back (c .lines),
+      group-back used0 (c .group0) e0,
+      group-back used1 (c .group1) e1,
+      set-bit (c .device .set),
+    )
+
+-- ---- hearings
+
+kind-back : (k : Kind) → kindOf (kindNumber k) ≡ k
+kind-back Silence = refl
+kind-back Noise = refl
+kind-back Master = refl
+kind-back Slave = refl
+
+kind-number : (k : ℕ) → leb k 3 ≡ true → kindNumber (kindOf k) ≡ k
+kind-number zero e = refl
+kind-number (suc zero) e = refl
+kind-number (suc (suc zero)) e = refl
+kind-number (suc (suc (suc zero))) e = refl
+kind-number (suc (suc (suc (suc k)))) e = absurd (omega (arith, leb-true (suc (suc (suc (suc k)))) 3 e))
+
+-- A hearing comes back from its numbers, and numbers that are formed from their hearing.
+pub same-hearing : (h : Hearing) → hearingOf (flatHearing h) ≡ h
+unfolding hearingOf flatHearing
+same-hearing h = rw (kind-back (h .kind), set-bit (h .sqe), set-bit (h .violation), set-bit (h .alo))
+
+pub same-heard : (f : FlatHearing) → formed f ≡ true → flatHearing (hearingOf f) ≡ f
+unfolding hearingOf flatHearing formed
+same-heard f e =
+    let a = both-hold _ _ e in
+    let v = both-hold _ _ (a .0) in
+    let s = both-hold _ _ (v .0) in
+    rw (kind-number (f .kind) (s .0), bit-set (f .sqe) (s .1), bit-set (f .violation) (v .1), bit-set (f .alo) (a .1))

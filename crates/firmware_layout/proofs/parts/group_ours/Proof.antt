@@ -1,0 +1,12 @@
+-- `parts::group_ours` meets its contract: its parts are what the callees ensure. Assumes nothing.
+use Rattle.firmware_layout.proofs.parts.group_ours.Statement.{statement}
+use Rattle.firmware_layout.proofs.parts.group_ours.Tie as tie
+
+returns : tie.Need-returns
+returns c = cc
+
+pub group-ours-spec : {M : Type 1} → statement M
+group-ours-spec =
+    tie.close
+    (tie.spec (λ c κs. tt) (λ c κs. tt) (λ c κs. tt) (λ c κs. tt) (λ c κs. tt) (λ c κs. tt) (λ c κs. tt) (λ c κs. tt) (λ c κs. tt)
+    (λ c κs. tt) returns)

@@ -1,0 +1,4 @@
+pub mod Frames
+pub mod Ports
+pub mod Back
+pub mod One

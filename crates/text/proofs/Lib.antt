@@ -1,3 +1,0 @@
-pub mod Frames
-pub mod Ports
-pub mod Back
