@@ -129,7 +129,7 @@ module _ (s : World) (a b : Hearing) where
       rw (g, ← e, f, eqb-true n 0 f, hear-controller s a b, hear-effect s a b, hear-answer s a b)
       (accepted-heard (s .controller) (s .areas) H (trusted (s .controller .lines) a b) (observed (s .controller .lines) a b))
 
--- the same of quiet time: the number, and the outcome
+-- the number that quiet time is refused with
 pub quiet-refused : (s : World) (n : ℕ)
     → eventRefusal (areasFit (s .areas)) (ltb 65535 n)
     (soughtBy (s .areas .index) (s .areas .ports) (dueIn n (s .controller .exchange) (s .controller .times)))
@@ -137,6 +137,7 @@ pub quiet-refused : (s : World) (n : ℕ)
 unfolding refusal
 quiet-refused s n = rw (← (due-in n s), damaged-needed (s .areas) (dueWithin n s), ← sixes)
 
+-- accepted quiet time passes bit time by bit time, and replies nothing
 pub quiet-accepted : (s : World) (q n : ℕ) → n ≡ refusal (quiet q) s → eqb n 0 ≡ true
     → outcome (quiet q) s ≡ record { refusal = 0; reply = silent; world = ticks q s }
 unfolding outcome step answer

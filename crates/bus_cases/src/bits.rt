@@ -1,12 +1,4 @@
 // Numbers out of other numbers, for all inputs.
-ghost use Prim.Native.Nat.{_≤_};
-
-pub(crate) fn least(a: usize, b: usize) -> usize
-    ensures { λ r. ⌜ (r ≤ a) × (r ≤ b) ⌝ }
-{
-    if a < b { a } else { b }
-}
-
 pub(crate) fn low16(n: u32) -> u16 {
     (n % 65536) as u16
 }

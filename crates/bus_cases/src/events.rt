@@ -1,5 +1,4 @@
 // Bus events and quiet time: command k with the number n.
-use crate::bits::least;
 use crate::desk::Desk;
 use crate::names::HEAR;
 use crate::names::QUIET;
@@ -7,6 +6,7 @@ use crate::say;
 use bus::Answered;
 use frames::Hearing;
 use frames::Kind;
+use logic::least;
 use model::Controller;
 
 fn is_slave(k: Kind) -> bool {

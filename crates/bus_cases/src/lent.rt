@@ -1,9 +1,9 @@
 // The calls, over as many words of each area as the script lends.
-use crate::bits::least;
 use crate::desk::Desk;
 use crate::events;
 use crate::line::Line;
 use crate::port_calls;
+use logic::least;
 use model::Controller;
 
 // The calls, over the areas that are lent.

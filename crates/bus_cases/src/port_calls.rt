@@ -1,5 +1,4 @@
 // The host's calls on ports, with the numbers of the script's line.
-use crate::bits::least;
 use crate::line::KEPT;
 use crate::line::Line;
 use crate::names::ASK;
@@ -9,6 +8,7 @@ use crate::names::OPEN;
 use crate::names::WRITE;
 use crate::say;
 use logic::either;
+use logic::least;
 
 fn open_or_close(
     index: &mut [u16],

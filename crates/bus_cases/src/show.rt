@@ -5,7 +5,6 @@
 // (address, whether a status word is set, the word). `port A` is the entry of address A and the four words of that port, `pages A` its part
 // of each page. `areas` is a sum of each area, in which each word at each place counts. `same` says whether all of that is as it was at the
 // last `mark`.
-use crate::bits::least;
 use crate::desk::Desk;
 use crate::names::AREAS;
 use crate::names::MARK;
@@ -16,6 +15,7 @@ use crate::names::STATE;
 use crate::numbers::numbers_of;
 use crate::say;
 use areas::layout::get;
+use logic::least;
 use model::Controller;
 
 // A sum is a remainder modulo this prime; each word before counts this factor more than the next.

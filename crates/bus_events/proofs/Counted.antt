@@ -26,6 +26,7 @@ stops true e = go (ltb e 65535) refl
     go true h = let l = ltb-true e 65535 h in omega arith
     go false h = refl
 
+-- FC and EC as the code computes them, one test each, are the model's counts after the event
 pub by-tests : (n : Counts) (h : Heard)
     → counts (cond (isCounted h) ((n .fc + 1) % 65536) (n .fc)) (cond (unsound h && ltb (n .ec) 65535) ((n .ec + 1) % 65536) (n .ec))
     ≡ countsAfter n h

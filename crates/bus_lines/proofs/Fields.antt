@@ -17,14 +17,17 @@ both-fields b l = go b (l .laa) (l .rld) (l .ls) (l .slm)
     go false a true s m = refl
     go false a false s m = refl
 
+-- rule 1 switches and sets RLD, on its occasion and with RLD clear
 pub fields1 : (o : Bool) (l : Lines) → switchAndSet (o && not (l .rld)) l ≡ rule1 o l
 unfolding rule1
 fields1 o l = both-fields (o && not (l .rld)) l
 
+-- rule 2 switches and sets RLD at a line timeout
 pub fields2 : (t : Bool) (l : Lines) → switchAndSet t l ≡ rule2 t l
 unfolding rule2
 fields2 t l = both-fields t l
 
+-- rule 3 switches at a status poll if RLD is clear, and clears RLD
 pub fields3 : (p : Bool) (l : Lines) → lines (switchIf (p && not (l .rld)) l) (cond p false (l .rld)) (l .ls) (l .slm) ≡ rule3 p l
 unfolding rule3
 fields3 p l = go p (l .laa) (l .rld) (l .ls) (l .slm)
@@ -37,6 +40,7 @@ fields3 p l = go p (l .laa) (l .rld) (l .ls) (l .slm)
     go true a false s false = refl
     go false a r s m = refl
 
+-- rule 4 sets RLD where the observed line is the poorer one
 pub fields4 : (p : Bool) (l : Lines) → lines (l .laa) (disturbedIf p l) (l .ls) (l .slm) ≡ rule4 p l
 unfolding rule4
 fields4 p l = go p (l .laa) (l .rld) (l .ls) (l .slm)
@@ -50,6 +54,7 @@ fields4 p l = go p (l .laa) (l .rld) (l .ls) (l .slm)
     go false a true s m = refl
     go false a false s m = refl
 
+-- rule 5 switches where it acts, and clears LS
 pub fields5 : (l : Lines) → lines (cond (acts5 l) (not (l .laa)) (l .laa)) (l .rld) (cond (acts5 l) false (l .ls)) (l .slm) ≡ rule5 l
 unfolding rule5
 fields5 l = go (acts5 l)

@@ -90,7 +90,7 @@ module _ (m : Areas) (w : ℕ) where
   exact e false = refl
 
   -- it is the model's port
-  pub port-found : portFor m w ≡ standingAt m (portOf S)
+  port-found : portFor m w ≡ standingAt m (portOf S)
   unfolding portFor standing seek standingOf
   port-found = go (hasPorts (codeOf w)) (eqb E 0) refl (leb E 255 && wellFormed (addressOf w) (portAt m E))
     where

@@ -2,7 +2,6 @@
 ghost use mathlib.Core.Path.{_≡_};
 ghost use mathlib.Core.List.{[]};
 ghost use mathlib.Core.Option.{some};
-ghost use Prim.Native.Nat.{min};
 ghost use Rattle.frames.specs.Hearing.{wordsOf};
 ghost use Rattle.model.specs.Layout.{areas};
 ghost use Rattle.model.specs.Ports.{standingOf, filled, replyBad, replyMissing, apply};
@@ -11,14 +10,9 @@ ghost use Rattle.bus_ports.specs.Found.{standingAt, lateAt, effectBy};
 use areas::store;
 use frames::Hearing;
 use frames::Judgement;
+use logic::least;
 use model::Faults;
 use model::Heard;
-
-fn least(a: usize, b: usize) -> usize
-    ensures { λ r. ⌜ r ≡ min a b ⌝ }
-{
-    if a < b { a } else { b }
-}
 
 // The words that were heard fill port p.
 fn fill_heard(ports: &mut [u16], page0: &mut [u16], page1: &mut [u16], p: u16, h: Hearing)

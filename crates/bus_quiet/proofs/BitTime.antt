@@ -20,6 +20,7 @@ raise-both : (a b : Bool) (i j : ℕ) (g : Group) → raiseAll (when a i ++ when
 raise-both true b i j g = refl
 raise-both false b i j g = refl
 
+-- the controller after one quiet bit time does not depend on the areas
 pub tick-controller : (s : World) → tickController s ≡ tickOf (s .controller)
 unfolding tickController tickOf
 tick-controller s =
@@ -27,6 +28,7 @@ tick-controller s =
     let e = expired (c .exchange) (c .times) in
     rw (raise-both (isSome e) (busSilent (c .times)) RTI BTI (c .group0))
 
+-- the time since the last sound master frame, one bit time later
 pub one-later : (t : Times) → sinceLater t ≡ sinceAfter 1 (t .since)
 one-later t = go (ltb (t .since) busTimeout) refl
   where
@@ -34,11 +36,13 @@ one-later t = go (ltb (t .since) busTimeout) refl
     go true e = omega (arith, ltb-true (t .since) busTimeout e)
     go false e = omega (arith, ltb-false (t .since) busTimeout e)
 
+-- the reply time that is due within one bit time is the one that the next bit time reaches
 pub due-next : (x : Exchange) (t : Times) → dueIn 1 x t ≡ expired x t
 due-next Idle t = refl
 due-next (Waiting w) t = rw (one-later t)
 due-next Done t = refl
 
+-- the code's test for the bus timeout at the next bit time is the model's
 pub bus-next : (t : Times) → (ltb (t .since) busTimeout && eqb (sinceAfter 1 (t .since)) busTimeout) ≡ busSilent t
 bus-next t = go (ltb (t .since) busTimeout) refl
   where

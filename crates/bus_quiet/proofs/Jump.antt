@@ -109,7 +109,7 @@ ticks-add zero b s = rw zero-add
 ticks-add (suc a) b s = rw suc-add (ticks-add a b (tick s))
 
 -- k bit times that surely bring nothing, passed at once.
-pub jump : (k : ℕ) (s : World) → k ≤ free (s .controller) → ticks k s ≡ world (later k (s .controller)) (s .areas)
+jump : (k : ℕ) (s : World) → k ≤ free (s .controller) → ticks k s ≡ world (later k (s .controller)) (s .areas)
 unfolding ticks later
 jump zero s h =
     let since : sinceAfter 0 (s .controller .times .since) ≡ s .controller .times .since = omega arith in

@@ -19,13 +19,14 @@ use Rattle.demands.proofs.OfCall.{number-exactly}
 use Rattle.demands.proofs.OfCode.{ran}
 
 -- the code answers this call wherever it is accepted
-abbrev pub Callable : Call → Type 0
+abbrev Callable : Call → Type 0
 Callable c = (u : World) → refusal c u ≡ 0 → (q : Hearing) × ((v : World) × Made u c 0 q v)
 
 zeroed : {u v : World} {c : Call} {n : ℕ} {q : Hearing} → refusal c u ≡ 0 → Made u c n q v → (q : Hearing) × ((v : World) × Made u c 0 q v)
 zeroed {u} {v} {c} {q = q} e m = (q, (v, subst (λ (k : ℕ). Made u c k q v) (number-exactly m ∙ e) m))
 
-pub again : {s t : World} {c : Call} {n : ℕ} {r : Hearing} → Made s c n r t → Callable c
+-- a call that the code made once it makes wherever the definitions accept it
+again : {s t : World} {c : Call} {n : ℕ} {r : Hearing} → Made s c n r t → Callable c
 again (by-hear {a} {b} p) u e = let o = outcome (hear a b) u in zeroed e (by-hear {m = o .world .areas} {r = asAnswered o} refl)
 again (by-quiet {n} p) u e = let o = outcome (quiet n) u in zeroed e (by-quiet {m = o .world .areas} {r = asAnswered o} refl)
 again (by-open {a} {p} {code} {sink} {i} eq) u e =

@@ -39,6 +39,7 @@ pub made-hear : (κs : _) (a : _) (r : _) (e : _) → hear-reads.Learnt κs a r 
     (world (r .controller) (lent (a .0) (e .1 .0) (e .1 .1 .0) (e .1 .1 .1 .0)))
 made-hear κs a r e p = by-hear p
 
+-- quiet time gives `by-quiet`
 pub made-quiet : (κs : _) (a : _) (r : _) (e : _) → quiet-reads.Learnt κs a r e
     → Made (world (a .1 .1 .1 .1 .0) (lent (a .0) (a .1 .0) (a .1 .1 .0) (a .1 .1 .1 .0)))
     (quiet (a .1 .1 .1 .1 .1 .0)) (r .refusal) (r .reply)
@@ -47,26 +48,31 @@ made-quiet κs a r e p = by-quiet p
 
 -- the host's calls on ports, beside whatever controller there is
 module _ (c : Controller) where
+  -- asking gives `by-ask`
   pub made-ask : (κs : _) (a : _) (r : _) (e : _) → ask-reads.Learnt κs a r e
       → Made (world c (lent (a .0) (a .1 .0) (a .1 .1 .0) (a .1 .1 .1 .0))) (readPort (a .1 .1 .1 .1 .0)) (refusalOf r) silent (world c (lent (a .0) (a .1 .0) (a .1 .1 .0) (a .1 .1 .1 .0)))
   made-ask κs a r e p = by-ask (p .0)
 
+  -- opening gives `by-open`
   pub made-open : (κs : _) (a : _) (r : _) (e : _) → open-reads.Learnt κs a r e
       → Made (world c (lent (a .0) (a .1 .0) (a .1 .1 .0) (a .1 .1 .1 .0)))
       (openPort (a .1 .1 .1 .1 .0) (a .1 .1 .1 .1 .1 .0) (a .1 .1 .1 .1 .1 .1 .0) (a .1 .1 .1 .1 .1 .1 .1 .0) (a .1 .1 .1 .1 .1 .1 .1 .1 .0))
       r silent (world c (lent (e .0) (e .1 .0) (a .1 .1 .0) (a .1 .1 .1 .0)))
   made-open κs a r e p = by-open p
 
+  -- closing gives `by-close`
   pub made-close : (κs : _) (a : _) (r : _) (e : _) → close-reads.Learnt κs a r e
       → Made (world c (lent (a .0) (a .1 .0) (a .1 .1 .0) (a .1 .1 .1 .0))) (closePort (a .1 .1 .1 .1 .0)) r silent
       (world c (lent (e .0) (e .1 .0) (a .1 .1 .0) (a .1 .1 .1 .0)))
   made-close κs a r e p = by-close p
 
+  -- writing gives `by-write`
   pub made-write : (κs : _) (a : _) (r : _) (e : _) → write-reads.Learnt κs a r e
       → Made (world c (lent (a .0) (a .1 .0) (a .1 .1 .0) (a .1 .1 .1 .0))) (writePort (a .1 .1 .1 .1 .0) (now (a .1 .1 .1 .1 .1 .0))) r silent
       (world c (lent (a .0) (e .1 .0) (e .1 .1 .0) (e .1 .1 .1 .0)))
   made-write κs a r e p = by-write p
 
+-- fetching hands back the words that `fetched` defines
 pub fetch-promised : (κs : _) (a : _) (r : _) (e : _) → fetch-reads.Learnt κs a r e → now r ≡ fetched (lent (a .0) (a .1 .0) (a .1 .1 .0) (a .1 .1 .1 .0)) (a .1 .1 .1 .1 .0)
 fetch-promised κs a r e p = p .0
 
@@ -95,31 +101,40 @@ ask-number κs a r e p = p .1
 
 -- the host's settings, beside whatever areas there are
 module _ (m : Areas) where
+  -- setting the device address gives `by-set-address`
   pub made-set-address : (κs : _) (a : _) (r : _) (e : _) → set-address-reads.Learnt κs a r e → Made (world (a .0) m) (setting (address (a .1 .0))) (r .refusal) silent (world (r .controller) m)
   made-set-address κs a r e p = by-set-address p
 
+  -- setting the reply time gives `by-set-reply-time`
   pub made-set-reply-time : (κs : _) (a : _) (r : _) (e : _) → set-reply-time-reads.Learnt κs a r e → Made (world (a .0) m) (setting (replyTime (a .1 .0))) (r .refusal) silent (world (r .controller) m)
   made-set-reply-time κs a r e p = by-set-reply-time p
 
+  -- setting the status word gives `by-set-status`
   pub made-set-status : (κs : _) (a : _) (r : _) (e : _) → set-status-reads.Learnt κs a r e → Made (world (a .0) m) (setting (status (a .1 .0))) 0 silent (world r m)
   made-set-status κs a r e p = by-set-status p
 
+  -- setting SLM gives `by-set-slm`
   pub made-set-slm : (κs : _) (a : _) (r : _) (e : _) → set-slm-reads.Learnt κs a r e → Made (world (a .0) m) (setting (slm (a .1 .0))) 0 silent (world r m)
   made-set-slm κs a r e p = by-set-slm p
 
+  -- filing LS gives `by-set-ls`
   pub made-set-ls : (κs : _) (a : _) (r : _) (e : _) → set-ls-reads.Learnt κs a r e → Made (world (a .0) m) (setting (ls (a .1 .0))) 0 silent (world r m)
   made-set-ls κs a r e p = by-set-ls p
 
+  -- clearing EC gives `by-clear-ec`
   pub made-clear-ec : (κs : _) (a : _) (r : _) (e : _) → clear-ec-reads.Learnt κs a r e → Made (world (a .0) m) (setting clearEC) 0 silent (world r m)
   made-clear-ec κs a r e p = by-clear-ec p
 
+  -- a reset gives `by-reset`, whatever controller there was
   pub made-reset : (c : Controller) (κs : _) (a : _) (r : _) (e : _) → reset-reads.Learnt κs a r e → Made (world c m) (setting reset) 0 silent (world r m)
   made-reset c κs a r e p = by-reset p
 
+  -- a call on group 0 gives `by-on-group0`
   pub made-on-group0 : (κs : _) (a : _) (r : _) (e : _) → on-group0-reads.Learnt κs a r e
       → Made (world (a .0) m) (setting (group0 (callOf (a .1 .0)))) 0 silent (world (r .controller) m)
   made-on-group0 κs a r e p = by-on-group0 (a .1 .0) p
 
+  -- a call on group 1 gives `by-on-group1`
   pub made-on-group1 : (κs : _) (a : _) (r : _) (e : _) → on-group1-reads.Learnt κs a r e
       → Made (world (a .0) m) (setting (group1 (callOf (a .1 .0)))) 0 silent (world (r .controller) m)
   made-on-group1 κs a r e p = by-on-group1 (a .1 .0) p
@@ -128,5 +143,6 @@ module _ (m : Areas) where
 pub one-reading0 : One on-group0-reads.Learnt
 one-reading0 κs a r q e d x y = x ∙ sym y
 
+-- The same holds of group 1.
 pub one-reading1 : One on-group1-reads.Learnt
 one-reading1 κs a r q e d x y = x ∙ sym y

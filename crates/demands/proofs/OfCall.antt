@@ -28,9 +28,11 @@ module _ {s t : World} {c : Call} {n : ℕ} {r : Hearing} (made : Made s c n r t
   unfolding outcome
   number-exactly = sym (ap (λ (x : Outcome). x .refusal) (made-outcome made))
 
+  -- Where the first test that holds has a number, the call answers that number.
   pub refused-exactly : (k : ℕ) → First (tests c s) k → n ≡ k
   refused-exactly k f = number-exactly ∙ refused-with c s k f
 
+  -- It is accepted exactly when none of the tests holds.
   pub accepted-exactly : (n ≡ 0) ↔ Silent (tests c s)
   accepted-exactly = subst (λ (k : ℕ). (k ≡ 0) ↔ Silent (tests c s)) (sym number-exactly) (accepts-exactly c s)
 
@@ -64,7 +66,7 @@ module _ {s t : World} {a b r : Hearing} (made : Made s (hear a b) 0 r t) where
   accepts : refusal (hear a b) s ≡ 0
   accepts = sym (number-exactly made)
 
-  -- The reply is a sound slave frame for the code of the master frame; it is given to a sound master frame alone.
+  -- The reply is a sound slave frame for the code of the master frame.
   pub reply-sound : SoundMaster heardOn → (r ≡ silent → ⊥) → judgedSlave (codeOf (firstWord heardOn)) r ≡ Sound
   reply-sound m speaks = go (answer (hear a b) s) refl (accepted-step made refl .1)
     where
@@ -72,16 +74,17 @@ module _ {s t : World} {a b r : Hearing} (made : Made s (hear a b) 0 r t) where
       go none e z = absurd (speaks (sym z))
       go (some ws) e z = rw (← z) (anywhere.reply-sound-anywhere s a b accepts m ws e)
 
+  -- It is given to a sound master frame alone.
   pub no-other-reply : (SoundMaster heardOn → ⊥) → r ≡ silent
   no-other-reply n = sym (accepted-step made refl .1) ∙ ap spoken (anywhere.no-other-reply-anywhere s a b n)
 
-  -- A port is filled exactly when a sound slave frame on the trusted line answers the waiting word of an open sink: then with the words
-  -- of the frame; and otherwise no area changes but for status bits.
+  -- A sound slave frame on the trusted line that answers the waiting word of an open sink fills its port with the words of the frame.
   pub fills : (e : ℕ) (v : Standing) → standing (s .areas) e ≡ some v → v .sink ≡ true → answersNow (s .controller) a b (v .word) ≡ true
       → t .areas ≡ filled (s .areas) (v .port) (wordsOf heardOn)
   fills e v there sink sound =
       rw (← (accepted-step made refl .0)) (anywhere.fills-anywhere s a b accepts e v there sink sound)
 
+  -- Otherwise no area changes but for status bits.
   pub others : Typed (hear a b)
       → ((e : ℕ) (v : Standing) → standing (s .areas) e ≡ some v → v .sink ≡ true → answersNow (s .controller) a b (v .word) ≡ false)
       → OnlyStatus (s .areas) (t .areas)

@@ -44,6 +44,7 @@ next {c = c} run typed made =
       same = ap (step c) (run .same) ∙ accepted-step made refl .0;
     }
 
+-- a sequence of calls of the code is a run, to which its refused calls add nothing
 pub ran : {past : List Call} {s : World} → Ran past s → Run past s
 ran begun = first
 ran (accepted before typed made) = next (ran before) typed made
@@ -60,6 +61,7 @@ module _ {past : List Call} {s : World} (calls : Ran past s) where
 
   -- ---- demand 1: in a sequence of our calls no call meets damage
 
+  -- No call after such a sequence is refused with 6.
   pub never-six : {t : World} {c : Call} {r : Hearing} → Made s c 6 r t → ⊥
   never-six {c = c} made = demand.never-damaged past all c (rw same (sym (number-exactly made)))
 
@@ -87,19 +89,21 @@ module _ {past : List Call} {s : World} (calls : Ran past s) where
     pub replies-exactly : r ≡ spoken (replyIn past a b)
     replies-exactly = sym spoke ∙ ap spoken (demand.reply-told past all a b)
 
-    -- A data reply holds the words that the host last wrote, a status reply the status word last set.
+    -- A data reply holds the words that the host last wrote.
     pub data-replied : SoundMaster heardNow → hasPorts (codeOf (firstWord heardNow)) ≡ true
         → r ≡ spoken (sourceTold past (firstWord heardNow) (openingOf past (addressOf (firstWord heardNow))))
     data-replied m p = sym spoke ∙ ap spoken (demand.data-reply past all a b m p)
 
+    -- A status reply holds the status word last set.
     pub status-replied : SoundMaster heardNow → codeOf (firstWord heardNow) ≡ 15
         → addressOf (firstWord heardNow) ≡ lastSettings past .address → r ≡ spoken (statusTold (lastSettings past .status))
     status-replied m p q = sym spoke ∙ ap spoken (demand.status-reply past all a b m p q)
 
-  -- FC and EC are counted.
+  -- FC is the number of judged frames, modulo 65,536.
   pub fc-counted : s .controller .counts .fc ≡ framesJudged past % 65536
   fc-counted = rw (← same) (demand.fc-counted past all)
 
+  -- EC is the number of unsound frames, and at most 65,535.
   pub ec-counted : s .controller .counts .ec ≡ min (framesUnsound past) 65535
   ec-counted = rw (← same) (demand.ec-counted past all)
 
@@ -115,24 +119,27 @@ module _ {past : List Call} {s : World} (calls : Ran past s) where
 
   module _ (a : ℕ) (o : Opening) (stands : openingOf past a ≡ some o) where
     -- An open sink shows the words of the last sound slave frame that answered its master frame since it was opened, or that there
-    -- was none, and its fills are their number; a source those that the host wrote.
+    -- was none, and its fills are their number.
     pub sink-shows : o .sink ≡ true
         → let l = answersSince past a (o .word) in
         view (s .areas) a ≡ some (viewWith o (lastOf l) (length l % 65536))
     sink-shows k = rw (← same) (demand.sink-shows past all a o stands k)
 
+    -- An open source shows the words that the host last wrote, or that there were none, and its fills are their number.
     pub source-shows : o .sink ≡ false
         → let l = writesSince past a in
         view (s .areas) a ≡ some (viewWith o (lastOf l) (length l % 65536))
     source-shows k = rw (← same) (demand.source-shows past all a o stands k)
 
-    -- What `ask` and `fetch` answer: an open port is not refused, and an empty one says that it is empty.
+    -- Asking answers never exactly where nothing filled the port since it was opened.
     pub ask-never : (x : Answer) → x ≡ asked (s .areas) a → (x ≡ Never) ↔ (fillings past a o ≡ [])
     ask-never x e = rw (e, ← same) (demand.ask-never past all a o stands)
 
+    -- An open port is not refused.
     pub ask-open : (x : Answer) → x ≡ asked (s .areas) a → refusalOf x ≡ 0
     ask-open x e = rw (e, ← same) (demand.ask-open past all a o stands)
 
+    -- Fetching hands back the words that filled the port last, and none where nothing did.
     pub fetch-shows : (ws : List ℕ) → ws ≡ fetched (s .areas) a → ws ≡ shownWords (lastOf (fillings past a o))
     fetch-shows ws e = e ∙ rw (← same) (demand.fetch-shows past all a o stands)
 

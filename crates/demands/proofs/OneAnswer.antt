@@ -21,6 +21,7 @@ use Rattle.model.proofs.Reading.{asked-number}
 use Rattle.demands.specs.Made.{Made, by-hear, by-quiet, by-open, by-close, by-write, by-ask, by-set-address, by-set-reply-time}
 use Rattle.demands.specs.Made.{by-set-status, by-set-slm, by-set-ls, by-clear-ec, by-reset, by-on-group0, by-on-group1}
 
+-- the outcome of a call with this number, this reply and this world afterwards
 abbrev pub outcomeWith : ℕ → Hearing → World → Outcome
 outcomeWith n r t = record { refusal = n; reply = r; world = t }
 
@@ -88,6 +89,7 @@ read s a e = read-outcome (refusal (readPort a) s) a s ∙ rw (read-number s a e
 
 -- ---- every call
 
+-- What a call of the code answers and leaves is the model's outcome of it.
 pub made-outcome : {s t : World} {c : Call} {n : ℕ} {r : Hearing} → Made s c n r t → outcome c s ≡ outcomeWith n r t
 unfolding refusal step effect answer tell reading0 reading1
 made-outcome (by-hear e) = sym e

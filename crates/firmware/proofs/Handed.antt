@@ -24,15 +24,18 @@ use Rattle.firmware_layout.proofs.Kept.{ours-taken, ours-kept, ours-fresh, ours
 
 -- ---- what is handed out is taken back
 
+-- a fresh controller, as `tolvendrum_reset` hands it out, is one of ours
 pub reset-handed : ours (flat freshController) ≡ true
 reset-handed = ours-fresh .numbers
 
+-- given a controller of ours, a call hands back one of ours, whatever the areas hold
 pub call-handed : (given : Bool) (c : Call) (f : FlatController) (m : Areas) → ours f ≡ true
     → ours (through given c f m .answered .controller) ≡ true
 unfolding through
 call-handed true c f m e = ours-kept c (world (controllerOf f) m) (ours-taken f e) .numbers
 call-handed false c f m e = e
 
+-- so does a setting, in its range or not
 pub setting-handed : (given : Bool) (t : Setting) (f : FlatController) → ours f ≡ true → ours (setThrough given t f .controller) ≡ true
 unfolding setThrough toldFor
 setting-handed false t f e = e
@@ -45,6 +48,7 @@ setting-handed true t f e = go (settingOut t) refl
     go true z = ours-taken f e .numbers
     go false z = ours-told t c z (ours-taken f e) .numbers
 
+-- so does a call on an interrupt group, whatever the group's number
 pub group-handed : (n : ℕ) (k : GroupCall) (f : FlatController) → ours f ≡ true → ours (readThrough n k f .controller) ≡ true
 unfolding readThrough reading0 reading1
 group-handed n k f e = go (ours f && isBit n) (isSet n)
@@ -60,6 +64,7 @@ group-handed n k f e = go (ours f && isBit n) (isSet n)
 
 -- ---- a refused call: its number, the controller and the areas as they were, and no reply
 
+-- Given a controller of ours, a refused call leaves it and the areas as they were, and replies nothing.
 pub refused-same : (given : Bool) (c : Call) (f : FlatController) (m : Areas) → ours f ≡ true
     → eqb (through given c f m .answered .refusal) 0 ≡ false
     → through given c f m ≡ leaves m (answers (through given c f m .answered .refusal) f (flatHearing silent))

@@ -70,59 +70,78 @@ one-write κs a r s e f p q = one-out p q
 
 -- ---- the others: the check bytes, what is asked and fetched, settings, and the interrupt groups
 
+-- `tolvendrum_checks` answers one count with its check bytes.
 pub one-checks : One checks-reads.Learnt
 one-checks κs a r q e d x y = x ∙ sym y
 
+-- `tolvendrum_ask` answers one refusal number and one state.
 pub one-ask : One ask-reads.Learnt
 one-ask κs a r q e d x y = x ∙ sym y
 
+-- `tolvendrum_fetch` hands back one refusal number, one size and the same words.
 pub one-fetch : One fetch-reads.Learnt
 one-fetch κs a r q e d x y = x ∙ sym y
 
+-- `tolvendrum_reset` hands out one controller.
 pub one-reset : One reset-reads.Learnt
 one-reset κs a r q e d x y = x ∙ sym y
 
+-- `tolvendrum_set_address` answers one refusal number and one controller.
 pub one-set-address : One set-address-reads.Learnt
 one-set-address κs a r q e d x y = x ∙ sym y
 
+-- So does `tolvendrum_set_status`.
 pub one-set-status : One set-status-reads.Learnt
 one-set-status κs a r q e d x y = x ∙ sym y
 
+-- So does `tolvendrum_set_reply_time`.
 pub one-set-reply-time : One set-reply-time-reads.Learnt
 one-set-reply-time κs a r q e d x y = x ∙ sym y
 
+-- So does `tolvendrum_set_slm`.
 pub one-set-slm : One set-slm-reads.Learnt
 one-set-slm κs a r q e d x y = x ∙ sym y
 
+-- So does `tolvendrum_set_ls`.
 pub one-set-ls : One set-ls-reads.Learnt
 one-set-ls κs a r q e d x y = x ∙ sym y
 
+-- So does `tolvendrum_clear_ec`.
 pub one-clear-ec : One clear-ec-reads.Learnt
 one-clear-ec κs a r q e d x y = x ∙ sym y
 
+-- `tolvendrum_read_status` answers one refusal number, one value and one controller.
 pub one-read-status : One read-status-reads.Learnt
 one-read-status κs a r q e d x y = x ∙ sym y
 
+-- So does `tolvendrum_read_vector`.
 pub one-read-vector : One read-vector-reads.Learnt
 one-read-vector κs a r q e d x y = x ∙ sym y
 
+-- So does `tolvendrum_write_status`.
 pub one-write-status : One write-status-reads.Learnt
 one-write-status κs a r q e d x y = x ∙ sym y
 
+-- So does `tolvendrum_write_vector`.
 pub one-write-vector : One write-vector-reads.Learnt
 one-write-vector κs a r q e d x y = x ∙ sym y
 
+-- So does `tolvendrum_write_pending`.
 pub one-write-pending : One write-pending-reads.Learnt
 one-write-pending κs a r q e d x y = x ∙ sym y
 
+-- So does `tolvendrum_write_mask`.
 pub one-write-mask : One write-mask-reads.Learnt
 one-write-mask κs a r q e d x y = x ∙ sym y
 
+-- `tolvendrum_line` answers one refusal number and one value of the outgoing line.
 pub one-line : One line-reads.Learnt
 one-line κs a r q e d x y = x ∙ sym y
 
+-- `tolvendrum_fc` answers one refusal number and one FC.
 pub one-fc : One fc-reads.Learnt
 one-fc κs a r q e d x y = x ∙ sym y
 
+-- `tolvendrum_ec` answers one refusal number and one EC.
 pub one-ec : One ec-reads.Learnt
 one-ec κs a r q e d x y = x ∙ sym y

@@ -29,12 +29,14 @@ use Rattle.model.specs.Calls.{Call, hear, quiet, openPort, closePort, writePort
 use Rattle.model.specs.Calls.{partFor, fetched}
 use Rattle.model.proofs.Formed.{size-small}
 
-pub part-short : (page : List ℕ) (p code : ℕ) → length (partOf page p (sizeOf code)) ≤ 16
+-- a port's part of a page has at most 16 words, whatever its F-code
+part-short : (page : List ℕ) (p code : ℕ) → length (partOf page p (sizeOf code)) ≤ 16
 unfolding partOf
 part-short page p code = omega (arith, size-small code, length-take (sizeOf code) (drop (pagePlace p) page))
 
 -- ---- what is fetched
 
+-- what is fetched has at most 16 words, whatever the areas hold
 pub fetched-short : (m : Areas) (a : ℕ) → length (fetched m a) ≤ 16
 unfolding fetched
 fetched-short m a = go (asked m a)
@@ -120,10 +122,12 @@ answer-short (setting t) s = tt
 abbrev pub Small : Hearing → Type 0
 Small h = (h .size ≤ 16) × (h .ends ≤ 4)
 
+-- silence is such a hearing
 pub silent-small : Small silent
 unfolding silent
 silent-small = (omega arith, omega arith)
 
+-- no words have more than 4 check bytes
 pub checks-small : (ws : List ℕ) → frameChecks ws .count ≤ 4
 unfolding frameChecks blocks
 checks-small ws = go (leb (length ws) 16) refl

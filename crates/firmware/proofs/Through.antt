@@ -2,7 +2,7 @@
 -- anything else is turned away. Assumes nothing.
 use Prim.Native.Nat.{ℕ}
 use mathlib.Core.Path.{_≡_, refl, sym, ap}
-use mathlib.Core.Bool.{Bool, true, false, _&&_, true≢false}
+use mathlib.Core.Bool.{Bool, true, false, _&&_, true≢false, and-eq-true-iff}
 use mathlib.Core.List.{List, [], _∷_}
 use Rattle.model.specs.declared.Answer.the-variants.{Refused}
 use Rattle.model.specs.declared.Controller.{Controller}
@@ -26,20 +26,21 @@ pub host-unfit : (c : Call) (ts : List Test) (m : Areas) → tests c (freshOver 
 unfolding hostCall portAreas portRefusal outcome
 host-unfit c ts m e f = ap (λ (n : ℕ). out (outcomeOf n c (freshOver m) .world .areas) n) (sym (unfit c ts (freshOver m) e f))
 
--- and reading, which then shows nothing
+-- and reading
 pub asked-unfit : (m : Areas) (a : ℕ) → areasFit m ≡ false → asked m a ≡ Refused 1
 unfolding asked portRefusal
 asked-unfit m a f = rw (unfit (readPort a) _ (freshOver m) refl f)
 
+-- so fetching then hands back no words
 pub fetched-unfit : (m : Areas) (a : ℕ) → areasFit m ≡ false → fetched m a ≡ []
 unfolding fetched
 fetched-unfit m a f = rw (asked-unfit m a f)
 
 -- ---- by what is given
 
+-- where three tests hold together, the first of them holds
 pub first-of-three : (a b c : Bool) → (a && b && c) ≡ true → a ≡ true
-first-of-three true b c e = refl
-first-of-three false b c e = absurd (true≢false (sym e))
+first-of-three a b c e = and-eq-true-iff a b .0 (and-eq-true-iff (a && b) c .0 e .0) .0
 
 -- both tests hold
 pub taken : (fit given : Bool) (c : Call) (x : Controller) (f : FlatController) (m : Areas) (o : Outcome) → (fit && given) ≡ true
@@ -58,12 +59,14 @@ turned true false c ts f m eb ef own e = refl
 turned false true c ts f m eb ef own e = rw (unfit c ts (world (controllerOf f) m) e (sym ef), sym ef, same-numbers f (own refl))
 turned false false c ts f m eb ef own e = refl
 
+-- where both hold, opening is the host's call
 pub opened : (fit given : Bool) (c : Call) (m : Areas) → (fit && given) ≡ true → hostCall c m ≡ openThrough given c m
 unfolding openThrough
 opened true true c m eb = refl
 opened true false c m eb = absurd (true≢false (sym eb))
 opened false given c m eb = absurd (true≢false (sym eb))
 
+-- where one does not, opening leaves the areas and answers the number of a call that is turned away
 pub not-opened : (fit given : Bool) (c : Call) (ts : List Test) (m : Areas) → (fit && given) ≡ false → fit ≡ areasFit m
     → tests c (freshOver m) ≡ (areaTest m ∷ ts) → out m (awayNumber m) ≡ openThrough given c m
 unfolding openThrough

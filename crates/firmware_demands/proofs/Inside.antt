@@ -2,7 +2,7 @@
 -- the conversions, which are inverse on what we hand out. Assumes nothing.
 use Prim.Native.Nat.{ℕ}
 use mathlib.Core.Path.{_≡_, refl, sym, _∙_, ap, subst}
-use mathlib.Core.Bool.{Bool, true, false, cond, _&&_}
+use mathlib.Core.Bool.{Bool, true, false, cond, _&&_, and-eq-true-iff}
 use Rattle.frames.specs.declared.Hearing.{Hearing}
 use Rattle.model.specs.declared.Answer.{Answer}
 use Rattle.model.specs.declared.Answer.the-variants.{Never, Good, Held, Refused}
@@ -11,7 +11,6 @@ use Rattle.model.specs.Layout.{Areas}
 use Rattle.model.specs.Event.{World, world, silent}
 use Rattle.model.specs.Host.{Setting, settingOut, address, replyTime, reset, group0, group1, freshController, tell}
 use Rattle.model.specs.Calls.{Call, readPort, setting, outcome, asked, refusalOf}
-use Rattle.model.proofs.Accepted.{both-hold}
 use Rattle.host_ports.specs.Host.{Out, hostCall}
 use Rattle.host_controller.specs.declared.GroupCall.{GroupCall}
 use Rattle.host_controller.specs.Settings.{toldFor, toldWith}
@@ -87,8 +86,8 @@ set-ours : {given : Bool} {f : FlatController} {t : Setting} {r : FlatTold} → 
 set-ours (set-address κs left p) g = g
 set-ours (set-status κs left p) g = g
 set-ours (set-reply-time κs left p) g = g
-set-ours (set-slm κs on left p) g = both-hold _ _ g .0
-set-ours (set-ls κs on left p) g = both-hold _ _ g .0
+set-ours (set-slm κs on left p) g = and-eq-true-iff _ _ .0 g .0
+set-ours (set-ls κs on left p) g = and-eq-true-iff _ _ .0 g .0
 set-ours (clear-ec κs left p) g = g
 
 ours-told-for : (t : Setting) (c : Controller) → Ours c → Ours (toldFor t c .controller)
@@ -115,7 +114,7 @@ group-made {f} m n k r o g = rw (group-promised o, g) (go (isSet n))
     c = controllerOf f
 
     kept : (t : Setting) → settingOut t ≡ false → controllerOf (flat (tell t c)) ≡ tell t c
-    kept t e = back (tell t c) (ours-told t c e (ours-taken f (both-hold _ _ g .0)))
+    kept t e = back (tell t c) (ours-told t c e (ours-taken f (and-eq-true-iff _ _ .0 g .0)))
 
     go : (one : Bool)
         → Made (world c m) (setting (cond one (group1 (callOf k)) (group0 (callOf k)))) 0 silent
@@ -128,7 +127,7 @@ pub called-made : {given : Bool} {f g : FlatController} {m m' : Areas} {c : Call
     → given ≡ true → Made (world (controllerOf f) m) c n h (world (controllerOf g) m')
 unfolding fetching
 called-made (by-hear x y r s) t =
-    inner.by-hear (through-outcome _ _ _ _ (leaves _ r) (hears-promised s) t (both-hold _ _ (both-hold _ _ t .0) .0))
+    inner.by-hear (through-outcome _ _ _ _ (leaves _ r) (hears-promised s) t (and-eq-true-iff _ _ .0 (and-eq-true-iff _ _ .0 t .0) .0))
 called-made (by-quiet r s) t = inner.by-quiet (through-outcome _ _ _ _ (leaves _ r) (quiets-promised s) t t)
 called-made (by-open side s) t = inner.by-open (opened-through _ _ _ _ (opens-promised s) t)
 called-made (by-close s) t = inner.by-close (closes-promised s)

@@ -27,7 +27,9 @@ use Rattle.firmware_demands.proofs.Away.{TurnedAway, away-refused, call
 
 -- what the host holds after the accepted calls `past`
 pub record Stands (past : List Call) (f : FlatController) (m : Areas) : Type 0 where
+  -- the controller is one of ours
   pub taken : ours f ≡ true
+  -- the inner calls, of which `past` were accepted, left it and the areas
   pub runs : Ran past (world (controllerOf f) m)
 
 -- ---- one call more

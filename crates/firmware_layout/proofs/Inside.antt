@@ -41,10 +41,12 @@ alike-same : (n a b : ℕ) → a + b ≤ n → Alike a b → a ≡ b
 alike-same zero a b h l = omega arith
 alike-same (suc n) a b h l = omega (arith, low-same a b (l 0), alike-same n (a / 2) (b / 2) (omega arith) (halves a b l))
 
+-- a word that passes the test on numbers has no bit outside u
 pub inside-within : (u x : ℕ) → inside u x ≡ true → Within x u
 inside-within u x e =
     record { each = λ k z. sym (ap (λ (y : ℕ). bit y k) (eqb-true (bitAnd x u) x e)) ∙ bit-and x u k ∙ rw (z, and-false) }
 
+-- and a word with no bit outside u passes it
 pub within-inside : (u x : ℕ) → Within x u → inside u x ≡ true
 within-inside u x h =
     eq-eqb (bitAnd x u) x

@@ -3,7 +3,7 @@
 -- so do hearings. Part by part, flags and stages by their few values. Assumes nothing.
 use Prim.Native.Nat.{ℕ, zero, suc}
 use mathlib.Core.Path.{_≡_, refl}
-use mathlib.Core.Bool.{Bool, true, false, _&&_, _||_}
+use mathlib.Core.Bool.{Bool, true, false, _&&_, _||_, and-eq-true-iff}
 use native.Mathlib.Omega.{arith}
 use lib.Dec.{eqb, leb}
 use borrow.Author.Tests.{eqb-true, leb-true}
@@ -16,7 +16,6 @@ use Rattle.model.specs.declared.Exchange.{Exchange}
 use Rattle.model.specs.declared.Exchange.the-variants.{Idle, Waiting, Done}
 use Rattle.model.specs.declared.Lines.{Lines}
 use Rattle.model.specs.declared.Controller.{Controller}
-use Rattle.model.proofs.Accepted.{both-hold}
 use Rattle.firmware_layout.specs.declared.FlatLines.{FlatLines}
 use Rattle.firmware_layout.specs.declared.FlatGroup.{FlatGroup}
 use Rattle.firmware_layout.specs.declared.FlatDevice.{FlatDevice}
@@ -29,10 +28,12 @@ use Rattle.firmware_layout.specs.Hearing.{kindNumber, kindOf, flatHearin
 
 -- ---- flags
 
-pub set-bit : (b : Bool) → isSet (bitOf b) ≡ b
+-- a flag comes back from its number
+set-bit : (b : Bool) → isSet (bitOf b) ≡ b
 set-bit true = refl
 set-bit false = refl
 
+-- the number of a flag is 0 or 1
 pub bit-bit : (b : Bool) → isBit (bitOf b) ≡ true
 bit-bit true = refl
 bit-bit false = refl
@@ -44,6 +45,7 @@ bit-set (suc (suc x)) e = absurd (omega (arith, leb-true (suc (suc x)) 1 e))
 
 -- ---- the parts of numbers of ours
 
+-- each part of the numbers passes its own test
 pub record Parts (f : FlatController) : Type 0 where
   pub exchange : exchangeOurs (f .exchange) ≡ true
   pub times : timesOurs (f .times) ≡ true
@@ -52,14 +54,15 @@ pub record Parts (f : FlatController) : Type 0 where
   pub group1 : groupOurs used1 (f .group1) ≡ true
   pub device : deviceOurs (f .device) ≡ true
 
+-- numbers of ours pass the test of each part
 pub parts : (f : FlatController) → ours f ≡ true → Parts f
 unfolding ours
 parts f e =
-    let d = both-hold _ _ e in
-    let g1 = both-hold _ _ (d .0) in
-    let g0 = both-hold _ _ (g1 .0) in
-    let l = both-hold _ _ (g0 .0) in
-    let t = both-hold _ _ (l .0) in
+    let d = and-eq-true-iff _ _ .0 e in
+    let g1 = and-eq-true-iff _ _ .0 (d .0) in
+    let g0 = and-eq-true-iff _ _ .0 (g1 .0) in
+    let l = and-eq-true-iff _ _ .0 (g0 .0) in
+    let t = and-eq-true-iff _ _ .0 (l .0) in
     record { exchange = t .0; times = t .1; lines = l .1; group0 = g0 .1; group1 = g1 .1; device = d .1 }
 
 -- ---- from the numbers and back
@@ -69,25 +72,25 @@ exchange-numbers : (s w : ℕ) → (leb s 2 && (eqb s 1 || eqb w 0)) ≡ true
 exchange-numbers zero w e = rw (eqb-true w 0 e)
 exchange-numbers (suc zero) w e = refl
 exchange-numbers (suc (suc zero)) w e = rw (eqb-true w 0 e)
-exchange-numbers (suc (suc (suc s))) w e = absurd (omega (arith, leb-true (suc (suc (suc s))) 2 (both-hold _ _ e .0)))
+exchange-numbers (suc (suc (suc s))) w e = absurd (omega (arith, leb-true (suc (suc (suc s))) 2 (and-eq-true-iff _ _ .0 e .0)))
 
 lines-numbers : (f : FlatLines) → linesOurs f ≡ true → flatLines (linesOf f) ≡ f
 lines-numbers f e =
-    let s = both-hold _ _ e in
-    let l = both-hold _ _ (s .0) in
-    let r = both-hold _ _ (l .0) in
+    let s = and-eq-true-iff _ _ .0 e in
+    let l = and-eq-true-iff _ _ .0 (s .0) in
+    let r = and-eq-true-iff _ _ .0 (l .0) in
     rw (bit-set (f .laa) (r .0), bit-set (f .rld) (r .1), bit-set (f .ls) (l .1), bit-set (f .slm) (s .1))
 
 group-numbers : (u : ℕ) (f : FlatGroup) → groupOurs u f ≡ true → flatGroup (groupOf u f) ≡ f
 group-numbers u f e =
-    let settled = both-hold _ (isSet (f .frozen) || eqb (f .pending) 0) e in
-    let flag = both-hold (inside u (f .pending) && inside u (f .mask) && inside u (f .status)) (isBit (f .frozen)) (settled .0) in
+    let settled = and-eq-true-iff _ (isSet (f .frozen) || eqb (f .pending) 0) .0 e in
+    let flag = and-eq-true-iff (inside u (f .pending) && inside u (f .mask) && inside u (f .status)) (isBit (f .frozen)) .0 (settled .0) in
     rw (bit-set (f .frozen) (flag .1))
 
 device-numbers : (f : FlatDevice) → deviceOurs f ≡ true → flatDevice (deviceOf f) ≡ f
 device-numbers f e =
-    let told = both-hold _ (isSet (f .set) || eqb (f .status) 0) e in
-    let flag = both-hold (leb (f .address) 4095) (isBit (f .set)) (told .0) in
+    let told = and-eq-true-iff _ (isSet (f .set) || eqb (f .status) 0) .0 e in
+    let flag = and-eq-true-iff (leb (f .address) 4095) (isBit (f .set)) .0 (told .0) in
     rw (bit-set (f .set) (flag .1))
 
 -- Numbers of ours come back from their controller.
@@ -143,15 +146,16 @@ kind-number (suc (suc zero)) e = refl
 kind-number (suc (suc (suc zero))) e = refl
 kind-number (suc (suc (suc (suc k)))) e = absurd (omega (arith, leb-true (suc (suc (suc (suc k)))) 3 e))
 
--- A hearing comes back from its numbers, and numbers that are formed from their hearing.
+-- A hearing comes back from its numbers.
 pub same-hearing : (h : Hearing) → hearingOf (flatHearing h) ≡ h
 unfolding hearingOf flatHearing
 same-hearing h = rw (kind-back (h .kind), set-bit (h .sqe), set-bit (h .violation), set-bit (h .alo))
 
+-- Numbers that are formed come back from their hearing.
 pub same-heard : (f : FlatHearing) → formed f ≡ true → flatHearing (hearingOf f) ≡ f
 unfolding hearingOf flatHearing formed
 same-heard f e =
-    let a = both-hold _ _ e in
-    let v = both-hold _ _ (a .0) in
-    let s = both-hold _ _ (v .0) in
+    let a = and-eq-true-iff _ _ .0 e in
+    let v = and-eq-true-iff _ _ .0 (a .0) in
+    let s = and-eq-true-iff _ _ .0 (v .0) in
     rw (kind-number (f .kind) (s .0), bit-set (f .sqe) (s .1), bit-set (f .violation) (v .1), bit-set (f .alo) (a .1))

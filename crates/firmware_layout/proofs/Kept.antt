@@ -29,7 +29,7 @@ use Rattle.firmware_layout.specs.declared.FlatController.{FlatController
 use Rattle.firmware_layout.specs.Controller.{controllerOf, ours}
 use Rattle.firmware_layout.specs.Kept.{Ours}
 use Rattle.firmware_layout.proofs.Inverse.{same-numbers}
-use Rattle.firmware_layout.proofs.Right.{RightTimes, Right, right, ours-right}
+use Rattle.firmware_layout.proofs.Right.{RightTimes, RightDevice, Right, right, ours-right}
 
 -- Numbers of ours stand for a controller of ours.
 pub ours-taken : (f : FlatController) → ours f ≡ true → Ours (controllerOf f)
@@ -109,39 +109,27 @@ fresh-right =
       device = record { address = omega arith; unset = λ e. refl };
     }
 
+-- a controller by the parts that a setting may change
+parts : {c : Controller} → RightTimes (c .times) → Shaped used0 (c .group0) → Shaped used1 (c .group1) → RightDevice (c .device) → Right c
+parts t g h d = record { times = t; group0 = g; group1 = h; device = d }
+
 -- a setting that is in its range
 told-right : (t : Setting) (c : Controller) → settingOut t ≡ false → Right c → Right (tell t c)
 unfolding tell
 told-right (address a) c e r =
-    record {
-      times = r .times;
-      group0 = r .group0;
-      group1 = r .group1;
-      device = record { address = ltb-false 4095 a e; unset = r .device .unset };
-    }
+    parts (r .times) (r .group0) (r .group1) (record { address = ltb-false 4095 a e; unset = r .device .unset })
 told-right (status w) c e r =
-    record {
-      times = r .times;
-      group0 = r .group0;
-      group1 = r .group1;
-      device = record { address = r .device .address; unset = λ f. absurd (true≢false f) };
-    }
+    parts (r .times) (r .group0) (r .group1) (record { address = r .device .address; unset = λ f. absurd (true≢false f) })
 told-right (replyTime t) c e r =
-    record {
-      times =
-          record { since = r .times .since; line = r .times .line; chosen = not-false (isReplyTime t) e; adopted = r .times .adopted };
-      group0 = r .group0;
-      group1 = r .group1;
-      device = r .device;
-    }
-told-right (slm b) c e r = record { times = r .times; group0 = r .group0; group1 = r .group1; device = r .device }
-told-right (ls b) c e r = record { times = r .times; group0 = r .group0; group1 = r .group1; device = r .device }
-told-right clearEC c e r = record { times = r .times; group0 = r .group0; group1 = r .group1; device = r .device }
+    let x = r .times in
+    parts (record { since = x .since; line = x .line; chosen = not-false (isReplyTime t) e; adopted = x .adopted }) (r .group0) (r .group1)
+    (r .device)
+told-right (slm b) c e r = parts (r .times) (r .group0) (r .group1) (r .device)
+told-right (ls b) c e r = parts (r .times) (r .group0) (r .group1) (r .device)
+told-right clearEC c e r = parts (r .times) (r .group0) (r .group1) (r .device)
 told-right reset c e r = fresh-right
-told-right (group0 g) c e r =
-    record { times = r .times; group0 = shaped-after g (c .group0) (r .group0); group1 = r .group1; device = r .device }
-told-right (group1 g) c e r =
-    record { times = r .times; group0 = r .group0; group1 = shaped-after g (c .group1) (r .group1); device = r .device }
+told-right (group0 g) c e r = parts (r .times) (shaped-after g (c .group0) (r .group0)) (r .group1) (r .device)
+told-right (group1 g) c e r = parts (r .times) (r .group0) (shaped-after g (c .group1) (r .group1)) (r .device)
 
 -- an accepted call
 step-right : (c : Call) (s : World) → refusal c s ≡ 0 → Right (s .controller) → Right (step c s .controller)
@@ -167,8 +155,10 @@ ours-kept c s o = go (eqb (refusal c s) 0) refl
     go true e = ours-right _ (step-right c s (eqb-true (refusal c s) 0 e) (right (s .controller) o))
     go false e = o
 
+-- A fresh controller is one of ours.
 pub ours-fresh : Ours freshController
 ours-fresh = ours-right freshController fresh-right
 
+-- A setting that is in its range makes of a controller of ours one of ours.
 pub ours-told : (t : Setting) (c : Controller) → settingOut t ≡ false → Ours c → Ours (tell t c)
 ours-told t c e o = ours-right _ (told-right t c e (right c o))

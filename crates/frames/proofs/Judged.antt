@@ -23,14 +23,17 @@ ends-wrong true e = rw e
 ends-wrong false e = rw e
 
 module _ (n : ℕ) (h : Hearing) where
+  -- a frame of another size is unsound, and no CRC
   pub wrong-size : (h .size ≡ n → ⊥) → Unsound false ≡ judged n h
   unfolding judged countsRight
   wrong-size d = wrong (marked h) (countsRight n h) (checksRight (wordsOf h) (h .checks)) (rw (ne-eqb _ _ d))
 
+  -- so is one of the right size with another number of check bytes
   pub wrong-ends : h .size ≡ n → (h .ends ≡ blocks n → ⊥) → Unsound false ≡ judged n h
   unfolding judged countsRight
   wrong-ends e d = wrong (marked h) (countsRight n h) (checksRight (wordsOf h) (h .checks)) (rw (eq-eqb _ _ e, ne-eqb _ _ d))
 
+  -- with the right counts the marks and the check bytes decide
   pub right-counts : h .size ≡ n → h .ends ≡ blocks n → verdict (marked h) true (checksRight (wordsOf h) (h .checks)) ≡ judged n h
   unfolding judged countsRight
   right-counts e d = rw (eq-eqb _ _ e, eq-eqb _ _ d)

@@ -25,6 +25,7 @@ pub by-table : (code : ℕ) → entry (getD (map sizeIn sizes) code 0) ≡ expec
 unfolding expectedOf sizes
 by-table code = sym (List·getD-map entry (map sizeIn sizes) code 0)
 
+-- an entry other than 0 is a number of words
 pub some-words : (n : ℕ) → (n ≡ 0 → ⊥) → some n ≡ entry n
 some-words zero h = absurd (h refl)
 some-words (suc n) h = refl

@@ -17,6 +17,7 @@ use Rattle.model.proofs.Accepted.{InRange, open-range}
 use Rattle.areas.specs.Lent.{shown}
 use Rattle.host_ports.specs.Host.{out, portAreas, hostCall, openRefusal, reached, writeRefusal}
 
+-- opening is refused as `openRefusal` writes it out
 pub open-number : (m : Areas) (a p code : ℕ) (sink : Bool) (i : ℕ) → portRefusal (openPort a p code sink i) m ≡ openRefusal m a p code i
 unfolding portRefusal refusal openRefusal
 open-number m a p code sink i = refl
@@ -33,14 +34,17 @@ excused : (none ill : Bool) (n : ℕ) → cond none 3 (cond (not none && ill) 6 
 excused true ill n = refl
 excused false ill n = refl
 
+-- reading is refused as `reached` writes it out, and tests nothing more of its port
 pub read-number : (m : Areas) (a : ℕ) → portRefusal (readPort a) m ≡ reached m a 0
 unfolding portRefusal refusal reached
 read-number m a = rw excused
 
+-- closing is refused as reading is
 pub close-number : (m : Areas) (a : ℕ) → portRefusal (closePort a) m ≡ reached m a 0
 unfolding portRefusal refusal reached
 close-number m a = rw excused
 
+-- writing is refused as `writeRefusal` writes it out
 pub write-number : (m : Areas) (a : ℕ) (ws : List ℕ) → portRefusal (writePort a ws) m ≡ writeRefusal m a ws
 unfolding portRefusal refusal writeRefusal reached
 write-number m a ws = rw excused
@@ -51,9 +55,11 @@ module _ (c : Call) (m : Areas) {k n : ℕ} (number : portRefusal c m ≡ k) (e 
   unfolding hostCall portAreas portRefusal outcome
   by-number = ap (λ (x : ℕ). out (outcomeOf x c (freshOver m) .world .areas) x) (e ∙ sym number)
 
+  -- with the number 0 the call does its step
   pub done : eqb n 0 ≡ true → out (step c (freshOver m) .areas) n ≡ hostCall c m
   done z = rw z at by-number
 
+  -- with any other number it leaves the areas
   pub refused : eqb n 0 ≡ false → out m n ≡ hostCall c m
   refused z = rw z at by-number
 
@@ -64,6 +70,7 @@ parts Good ws = refl
 parts Held ws = refl
 parts (Refused n) ws = refl
 
+-- the code's test for showing the port's words gives what is fetched
 pub fetch-shown : (m : Areas) (a : ℕ) {x : Answer} {b : Bool} → x ≡ asked m a → b ≡ shown x
     → cond b (validWords m (entry m a)) [] ≡ fetched m a
 unfolding fetched

@@ -34,9 +34,11 @@ module _ (op : ℕ → ℕ → ℕ) (f : Bool → Bool → Bool)
   unfolding bit
   each a b k = rw (shr a b k, low (a / 2 ^ k) (b / 2 ^ k) 1) (digit (a / 2 ^ k % 2) (b / 2 ^ k % 2) (omega arith) (omega arith))
 
+-- a meet has a bit exactly if both words have it
 pub bit-and : (a b k : ℕ) → bit (bitAnd a b) k ≡ (bit a k && bit b k)
 bit-and = each bitAnd _&&_ and-shr and-mod refl refl refl refl
 
+-- a join has a bit exactly if one of the words has it
 pub bit-or : (a b k : ℕ) → bit (bitOr a b) k ≡ (bit a k || bit b k)
 bit-or = each bitOr _||_ or-shr or-mod refl refl refl refl
 
@@ -76,14 +78,18 @@ one-bit k h = shl-exact {a = 1} 1 k 16 (omega arith) (omega arith) ∙ one-mul (
 
 -- ---- no bit outside u
 
+-- 0 has no bit outside u
 pub within-none : (u : ℕ) → Within 0 u
 within-none u = record { each = λ k e. bit-high 0 k (pow-pos k) }
 
+-- the used bits of a word are inside u
 pub within-used : (v u : ℕ) → Within (bitAnd v u) u
 within-used v u = record { each = λ k e. rw (bit-and v u k, e, and-false) }
 
+-- a part of a word inside u is inside u
 pub within-part : {a u : ℕ} (b : ℕ) → Within a u → Within (bitAnd a b) u
 within-part {a} b h = record { each = λ k e. rw (bit-and a b k, h .each k e) }
 
+-- the join of two words inside u is inside u
 pub within-join : {a b u : ℕ} → Within a u → Within b u → Within (bitOr a b) u
 within-join {a} {b} h l = record { each = λ k e. rw (bit-or a b k, h .each k e) (l .each k e) }

@@ -16,6 +16,7 @@ abbrev pub Found : ℕ → ℕ → Option ℕ → Type 0
 Found n x none = (k : ℕ) → k < n → bit x k ≡ false
 Found n x (some j) = (j < n) × (bit x j ≡ true) × ((k : ℕ) → j < k → k < n → bit x k ≡ false)
 
+-- `highest` finds the highest set bit among the n lowest, or that none is set
 pub found : (n x : ℕ) → Found n x (highest n x)
 unfolding highest
 found zero x = λ k h. absurd (omega arith)
@@ -26,6 +27,7 @@ found (suc n) x = go (bit x n) refl (highest n x) (found n x)
     go false e none f = λ k h. ⊎-elim (λ q. rw q e) (f k) (eq-or-lt-of-le (le-of-suc-le-suc h))
     go false e (some j) f = (omega arith, f .1, λ k l h. ⊎-elim (λ q. rw q e) (f .2 k l) (eq-or-lt-of-le (le-of-suc-le-suc h)))
 
+-- a number from 2 ^ j on and below 2 ^ (j + 1) has bit j as its highest
 pub highest-at : (n j a : ℕ) → j < n → 2 ^ j ≤ a → a < 2 ^ suc j → highest n a ≡ some j
 unfolding highest bit
 highest-at zero j a h l u = absurd (omega arith)
@@ -39,6 +41,7 @@ highest-at (suc n) j a h l u = go (highest-at n j a) (eq-or-lt-of-le (le-of-suc-
         rw (one, e)
     go rest (inr k) = rw (bit-high a n (lt-of-lt-of-le u (pow-mono k))) (rest k l u)
 
+-- in 0 no bit is set
 pub highest-zero : highest 16 0 ≡ none
 unfolding highest bit
 highest-zero = refl

@@ -14,10 +14,12 @@ abbrev pub fromBit : ℕ → ℕ → List ℕ
 fromBit u zero = []
 fromBit u (suc k) = cond (bit u k) (2 ^ k) 0 ∷ fromBit u k
 
+-- The names of group 0 are its bits, from 15 down to 0.
 pub listed0 : names0 ≡ fromBit used0 16
 unfolding dataTransfer bit
 listed0 = refl
 
+-- The names of group 1 are its bits, from 15 down to 0, and 0 for each bit that it has not.
 pub listed1 : names1 ≡ fromBit used1 16
 unfolding bit
 listed1 = refl

@@ -2,7 +2,7 @@
 -- other calls, and the sink of a bus event. Assumes nothing.
 use Prim.Native.Nat.{ℕ, _≤_, _<_}
 use mathlib.Core.Path.{_≡_, refl, sym, _∙_, ap}
-use mathlib.Core.Bool.{Bool, true, false, cond, not, _&&_, _||_, true≢false, false≢true}
+use mathlib.Core.Bool.{Bool, true, false, cond, not, _&&_, _||_, true≢false}
 use mathlib.Core.List.{List}
 use mathlib.Core.Option.{Option, none, some}
 use native.Mathlib.Omega.{arith}
@@ -28,13 +28,10 @@ use Rattle.model.proofs.Refused.{accepted}
 
 -- ---- tests that did not hold
 
+-- where `or` of two tests does not hold, neither holds
 pub neither : (a b : Bool) → (a || b) ≡ false → (a ≡ false) × (b ≡ false)
 neither true b e = absurd (true≢false e)
 neither false b e = (refl, e)
-
-pub both-hold : (a b : Bool) → (a && b) ≡ true → (a ≡ true) × (b ≡ true)
-both-hold true b e = (refl, e)
-both-hold false b e = absurd (false≢true e)
 
 -- a test that is excused by the first
 pub excused : (a b : Bool) → (not a && not b) ≡ false → a ≡ false → b ≡ true
@@ -42,6 +39,7 @@ excused true b e f = absurd (true≢false f)
 excused false true e f = refl
 excused false false e f = absurd (true≢false e)
 
+-- where nothing stands no port v does
 pub nowhere : {v : Standing} → none ≡ some v → ⊥
 nowhere e = let z : _≡_ {A = ℕ} 0 1 = cc in omega arith
 
@@ -55,6 +53,7 @@ pub record InRange (a p f i : ℕ) : Type 0 where
   pub code : f ≤ 4
   pub interrupt : i ≤ 7
 
+-- an opening whose range test does not hold has its arguments in range
 pub open-range : (a p code i : ℕ) → openOut a p code i ≡ false → InRange a p code i
 open-range a p code i e =
     let r1 = neither _ _ e in
@@ -71,6 +70,7 @@ open-range a p code i e =
       interrupt = ltb-false 7 i (r1 .1);
     }
 
+-- an accepted opening finds address and port free, so what it does to the areas is valid
 pub valid-open : (a p code : ℕ) (sink : Bool) (i : ℕ) (s : World) → refusal (openPort a p code sink i) s ≡ 0
     → Valid (s .areas) (opened a p code sink i)
 valid-open a p code sink i s e =
@@ -92,13 +92,16 @@ module _ (m : Areas) (a : ℕ) (above : ltb 255 (entry m a) ≡ false) (absent :
   finds : standing m a ≡ some (standingOf m (entry m a))
   finds = open-at m a (eqb-false _ 0 absent) (ltb-false 255 _ above) (excused _ _ ill absent)
 
+-- an accepted closing finds the port of the address's entry standing open there
 pub found-close : (a : ℕ) (s : World) → refusal (closePort a) s ≡ 0 → standing (s .areas) a ≡ some (standingOf (s .areas) (entry (s .areas) a))
 found-close a s e = let t = accepted (closePort a) s e in finds (s .areas) a (t badEntry) (t noPort) (t badWords)
 
+-- and so does an accepted write
 pub found-write : (a : ℕ) (ws : List ℕ) (s : World) → refusal (writePort a ws) s ≡ 0
     → standing (s .areas) a ≡ some (standingOf (s .areas) (entry (s .areas) a))
 found-write a ws s e = let t = accepted (writePort a ws) s e in finds (s .areas) a (t badEntry) (t noPort) (t badWords)
 
+-- what an accepted closing does to the areas is valid
 pub valid-close : (a : ℕ) (s : World) → refusal (closePort a) s ≡ 0 → Valid (s .areas) (closed a (entry (s .areas) a))
 unfolding standingOf
 valid-close a s e = closing (record { seen = standingOf (s .areas) (entry (s .areas) a); there = found-close a s e; port = refl; word = refl })
@@ -108,6 +111,7 @@ pub write-source : (a : ℕ) (ws : List ℕ) (s : World) → refusal (writePort 
 unfolding standingOf
 write-source a ws s e = accepted (writePort a ws) s e wrongSide
 
+-- what an accepted write does is valid: the port stands open, and the words have its size
 pub valid-write : (a : ℕ) (ws : List ℕ) (s : World) → refusal (writePort a ws) s ≡ 0 → Valid (s .areas) (fill (entry (s .areas) a) ws)
 unfolding standingOf
 valid-write a ws s e =
@@ -144,17 +148,19 @@ pub record Sink (m : Areas) (w : ℕ) (v : Standing) : Type 0 where
   pub word : v .word ≡ w
   pub sink : v .sink ≡ true
 
+-- the sink that is found for a master word is open for it in this sense
 pub sink-open : (m : Areas) (w : ℕ) (v : Standing) → sinkFor m w ≡ some v → Sink m w v
 sink-open m w v e =
     let k = sink-port (portFor m w) v e in
     let o = port-open m w v (k .0) in
     record { there = o .0; word = o .1; sink = k .1 }
 
+-- so its port stands open at the word's address, with this word
 pub sink-at : (m : Areas) (w : ℕ) (v : Standing) → sinkFor m w ≡ some v → At m (addressOf w) (v .port) w
 sink-at m w v e = let k = sink-open m w v e in record { seen = v; there = k .there; port = refl; word = k .word }
 
 -- a sound slave frame has the size of its code
-pub sound-size : (code : ℕ) (h : Hearing) → length (h .words) ≡ 16 → judgedSlave code h ≡ Sound → length (wordsOf h) ≡ sizeOf code
+sound-size : (code : ℕ) (h : Hearing) → length (h .words) ≡ 16 → judgedSlave code h ≡ Sound → length (wordsOf h) ≡ sizeOf code
 unfolding judgedSlave judged countsRight wordsOf sizeOf
 sound-size code h l e = go (expectedOf code) refl e
   where

@@ -48,16 +48,19 @@ module _ (m : Areas) (shape : Shape m) where
   fits-in : not (areasFit m) ≡ false
   fits-in = rw (shape .fits)
 
+  -- of a bus event or quiet time whose arguments are in range no test holds
   pub bus-in : (out : Bool) (w : Option ℕ) → out ≡ false → Silent (onBus m out w)
   bus-in out w e = (fits-in, (e, (no-above m shape (neededFor w), (no-ill m shape (neededFor w), tt))))
 
+  -- nor of a call in range whose address has an entry, if none of the tests that it adds for the port holds
   pub port-in : (a : ℕ) (more : List Test) → ltb 4095 a ≡ false → eqb (entry m a) 0 ≡ false → Silent more → Silent (atPort m a more)
   port-in a more e there s = (fits-in, (e, (no-above m shape (some a), (there, (no-ill m shape (some a), s)))))
 
-  -- the number of any other, as its other tests give it
-  pub bus-first : (out : Bool) (w : Option ℕ) → firstOf (onBus m out w) ≡ cond out 2 0
+  -- a bus event or quiet time answers 2 with arguments out of range, else 0
+  bus-first : (out : Bool) (w : Option ℕ) → firstOf (onBus m out w) ≡ cond out 2 0
   bus-first out w = rw (shape .fits, no-above m shape (neededFor w), no-ill m shape (neededFor w))
 
+  -- a call on a port answers 2 out of range, else 3 without an entry, else what the tests that it adds say
   pub port-first : (a : ℕ) (more : List Test)
       → firstOf (atPort m a more) ≡ cond (ltb 4095 a) 2 (cond (eqb (entry m a) 0) 3 (firstOf more))
   port-first a more = rw (shape .fits, no-above m shape (some a), no-ill m shape (some a))
@@ -92,12 +95,14 @@ module _ (s : World) (shape : Shape (s .areas)) where
   whole (readPort a) = port-whole a [] tt
   whole (setting t) = (refl, tt)
 
+  -- No call is refused with 6 where the areas have their shape.
   pub undamaged : (c : Call) → refusal c s ≡ 6 → ⊥
   unfolding refusal
   undamaged c e = no-six (tests c s) (whole c) e
 
 -- ---- two alike worlds answer every call with the same number
 
+-- in a shape, the port to which an entry leads stands open at the entry's address
 pub at-entry : (m : Areas) (a : ℕ) → Shape m → (entry m a ≡ 0 → ⊥) → standing m a ≡ some (standingOf m (entry m a))
 at-entry m a s n = go (s .entries a)
   where

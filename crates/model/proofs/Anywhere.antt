@@ -1,7 +1,7 @@
 -- Demand 2 in any memory: of every event, whatever controller and areas hold, what is replied and what becomes of the areas. Assumes nothing.
 use Prim.Native.Nat.{ℕ, zero, suc}
 use mathlib.Core.Path.{_≡_, refl, sym, _∙_, ap}
-use mathlib.Core.Bool.{true, false, _&&_, true≢false, false≢true}
+use mathlib.Core.Bool.{true, false, _&&_, true≢false, false≢true, and-eq-true-iff}
 use mathlib.Core.List.{List}
 use mathlib.Core.Option.{none, some}
 use lib.ListN.{length}
@@ -29,7 +29,6 @@ use Rattle.model.proofs.PortWords.{length-with}
 use Rattle.model.proofs.Tables.{answerOf, effectOf, hear-answer, hear-effect}
 use Rattle.model.proofs.Refused.{accepted}
 use Rattle.model.proofs.Standings.{standing-at}
-use Rattle.model.proofs.Accepted.{both-hold}
 use Rattle.model.proofs.Taken.{waiting-took, valid-heard}
 use Rattle.model.proofs.Invariant.{one-of}
 use Rattle.model.proofs.Holds.{later-valid}
@@ -66,6 +65,7 @@ module _ (s : World) (a b : Hearing) where
   answered m =
       rw (hear-answer s a b) (ap (answerOf (s .controller .device) (s .areas)) (heard-master heardOn m (s .controller .exchange)))
 
+  -- where the areas have their lengths, each reply is a sound slave frame for the code of the master frame
   pub reply-sound-in : areasFit (s .areas) ≡ true → SoundMaster heardOn → (ws : List ℕ) → answer (hear a b) s ≡ some ws
       → judgedSlave (codeOf (firstWord heardOn)) (sent ws) ≡ Sound
   reply-sound-in fits m ws e =
@@ -112,8 +112,8 @@ module _ (s : World) (a b : Hearing) where
         -- the words that pass are one word
         waited : (w : ℕ) → answersNow (s .controller) a b w ≡ true → waitsFor (s .controller .exchange) w ≡ true
         waited w h =
-            let pair = both-hold (isSlave (heardOn .kind) && waitsFor (s .controller .exchange) w) (isSound (judgedSlave (codeOf w) heardOn)) h in
-            both-hold (isSlave (heardOn .kind)) (waitsFor (s .controller .exchange) w) (pair .0) .1
+            let pair = and-eq-true-iff (isSlave (heardOn .kind) && waitsFor (s .controller .exchange) w) (isSound (judgedSlave (codeOf w) heardOn)) .0 h in
+            and-eq-true-iff (isSlave (heardOn .kind)) (waitsFor (s .controller .exchange) w) .0 (pair .0) .1
 
         one-word : (x : Exchange) (u w : ℕ) → waitsFor x u ≡ true → waitsFor x w ≡ true → u ≡ w
         one-word Idle u w p q = absurd (false≢true p)

@@ -57,12 +57,14 @@ word-number : (f : Flags) → wordOf f ≡ binary (digits f)
 unfolding wordOf
 word-number f = simp worth-digit (omega arith)
 
+-- the flags read from a word that was put together of flags are those flags
 pub flags-of-word : (f : Flags) → flagsOf (wordOf f) ≡ f
 unfolding flagsOf
 flags-of-word f =
     let at = number-at (digits f) in
     rw (word-number f, at 0, at 1, at 2, at 3, at 4, at 5, at 6, at 7, at 8)
 
+-- the zero bits of a word that was put together of flags are zero
 pub zero-bits : (f : Flags) → zeroBits (wordOf f) ≡ true
 unfolding zeroBits
 zero-bits f = rw (word-number f, number-end (digits f))

@@ -92,7 +92,7 @@ module _ (o : Option ℕ) (m n : Areas) (s : Shape m) (t : Shape n) (b : ButPort
       (room (n .ports) p (lengths n (t .fits) .ports) h) e ports
 
   -- One effect on both leaves them the same but for status bits of port o, and these too if the effect concerns port o.
-  pub but-apply : (e : Effect) → Valid m e → ButPort (settle (portAffected e) o) (apply e m) (apply e n)
+  but-apply : (e : Effect) → Valid m e → ButPort (settle (portAffected e) o) (apply e m) (apply e n)
   unfolding apply filled
   but-apply untouched v = b
   but-apply (fill p ws) (filling at size) =
@@ -112,5 +112,6 @@ module _ (o : Option ℕ) (m n : Areas) (s : Shape m) (t : Shape n) (b : ButPort
       let r = with-port p _ _ (at-here at .small) refl in
       record { only = record { index = rw (b .only .index); page0 = b .only .page0; page1 = b .only .page1; ports = r .only }; same = r .same }
 
+  -- the same where each of the two has its own effect, and these are equal
   pub but-effects : {e f : Effect} → e ≡ f → Valid m f → ButPort (settle (portAffected f) o) (apply f m) (apply e n)
   but-effects {e} {f} i v = subst (λ (g : Effect). ButPort (settle (portAffected f) o) (apply f m) (apply g n)) (sym i) (but-apply f v)

@@ -161,7 +161,7 @@ module _ (past : List Call) (h : ToldBy past (after past)) where
   same-place past′ a false e = ap portNumber e
 
   -- each call: the port in doubt after it is the port at the address in doubt after it
-  pub step-number : (c : Call) → refusal c (after past) ≡ 0 → (x : Option ℕ)
+  step-number : (c : Call) → refusal c (after past) ≡ 0 → (x : Option ℕ)
       → portAtAddress (c ∷ past) (remains (finishedBy past (happening c)) x) ≡ settle (finished past c) (portAtAddress past x)
   unfolding finished effect openingOf finishes
   step-number c r none = sym (settle-none (finished past c))
@@ -219,7 +219,7 @@ module _ (past : List Call) (h : ToldBy past (after past)) where
               away a refl (sym (standing-at M a (shown a q) (shows a q i) .port) ∙ number)
 
 -- So after every accepted run the port in doubt is the one at the address in doubt.
-pub by-address : (past : List Call) (x : Option ℕ) (calls : List Call) → Accepted (calls ++ past)
+by-address : (past : List Call) (x : Option ℕ) (calls : List Call) → Accepted (calls ++ past)
     → portAtAddress (calls ++ past) (doubtful past x calls) ≡ doubtfulPort past (portAtAddress past x) calls
 unfolding doubtfulPort doubtful finishes
 by-address past x [] acc = refl
@@ -227,6 +227,7 @@ by-address past x (c ∷ calls) acc =
     step-number (calls ++ past) (past-told (calls ++ past) (acc .2)) c (acc .1) (doubtful past x calls)
     ∙ ap (settle (finished (calls ++ past) c)) (by-address past x calls (acc .2))
 
+-- So from the port that waited on, the port in doubt is the one at the address in doubt.
 pub waiting-address : (before calls : List Call) → Accepted (calls ++ before)
     → portAtAddress (calls ++ before) (doubtful before (waitingAddress before) calls) ≡ doubtfulPort before (waitingPort before) calls
 waiting-address before calls acc =

@@ -30,9 +30,11 @@ pub record EntrySet (x y : List ℕ) (a e : ℕ) : Type 0 where
   pub here : getD y a 0 ≡ e
   pub other : (b : ℕ) → b ≢ a → getD y b 0 ≡ getD x b 0
 
+-- an index table whose entry is e already may stay as it is
 pub entry-kept : (x : List ℕ) (a e : ℕ) → getD x a 0 ≡ e → EntrySet x x a e
 entry-kept x a e h = record { long = refl; here = h; other = λ b ne. refl }
 
+-- setting the entry of an address inside the table changes no other entry
 pub entry-set : (x : List ℕ) (a e : ℕ) → a < length x → EntrySet x (set x a e) a e
 entry-set x a e h =
     record { long = length-set x a e; here = getD-set-same x a e 0 h; other = λ b ne. getD-set-other x a b e 0 ne }
@@ -42,12 +44,15 @@ pub record PartSet (p : ℕ) (x y : List ℕ) : Type 0 where
   pub long : length y ≡ length x
   pub other : (q k : ℕ) → q ≢ p → k ≤ 16 → partOf y q k ≡ partOf x q k
 
+-- a page may stay as it is
 pub part-kept : (p : ℕ) (x : List ℕ) → PartSet p x x
 part-kept p x = record { long = refl; other = λ q k ne h. refl }
 
+-- at most sixteen words stored in port p's part change no other part
 pub part-set : (p : ℕ) (x ws : List ℕ) → length ws ≤ 16 → PartSet p x (withPart x p ws)
 part-set p x ws short = record { long = length-part x p ws; other = λ q k ne h. part-other x p q ws k ne short h }
 
+-- of two such pages either may be chosen
 pub part-either : {p : ℕ} {x y z : List ℕ} (b : Bool) → PartSet p x y → PartSet p x z → PartSet p x (cond b y z)
 part-either true h l = h
 part-either false h l = l
@@ -75,6 +80,7 @@ pub record Changed (m n : Areas) (a p e : ℕ) (w : Words) : Type 0 where
   pub page1 : PartSet p (m .page1) (n .page1)
   pub after : After a p e w
 
+-- areas put together of such a table, the new words of port p and such pages are changed so
 pub changed : {m : Areas} {a p e : ℕ} {w : Words} {i x y : List ℕ} → Shape m → Own m a p → EntrySet (m .index) i a e
     → PartSet p (m .page0) x → PartSet p (m .page1) y → After a p e w → Changed m (areas i (withWords (m .ports) p w) x y) a p e w
 unfolding areasFit
@@ -150,9 +156,11 @@ module _ {m n : Areas} {a p e : ℕ} {w : Words} (c : Changed m n a p e w) where
         inr (c .index .other b elsewhere ∙ back))
         (s .ports q h few)))
 
+    -- areas changed so keep their shape
     pub shape-change : Shape n
     shape-change = record { fits = c .fits; entries = entries; ports = ports }
 
+    -- every other address shows what it showed before the change
     pub standing-other : (b : ℕ) → b ≢ a → standing n b ≡ standing m b
     standing-other b ne =
         ⊎-elim (λ z. standing-none n b (c .index .other b ne ∙ z) ∙ sym (standing-none m b z))

@@ -35,7 +35,7 @@ pub others-stand : (c : Call) → isHeard (happening c) ≡ false → Typed c ×
 others-stand c e = (unheard _ (happening c) e, unheard _ (happening c) e)
 
 -- whatever is neither a sound master frame nor such a slave frame is harmless
-pub all-else-harmless : (o : Option ℕ) (h : Hearing) → (SoundMaster h → ⊥) → (SoundReply o h → ⊥) → harmless (h .kind) o h ≡ true
+all-else-harmless : (o : Option ℕ) (h : Hearing) → (SoundMaster h → ⊥) → (SoundReply o h → ⊥) → harmless (h .kind) o h ≡ true
 all-else-harmless o h m r = by (h .kind) refl o refl
   where
     unsound : (j : Judgement) → (j ≡ Sound → ⊥) → not (isSound j) ≡ true
@@ -54,6 +54,7 @@ pub damage-is : (past : List Call) (a b : Hearing) → (SoundMaster a → ⊥) �
     → (SoundReply (awaited past 0) b → ⊥) → Damaged past (hear a b)
 damage-is past a b m n r s = (all-else-harmless (awaited past 0) a m r, all-else-harmless (awaited past 0) b n s)
 
+-- Quiet time of any length is damage.
 pub quiet-is : (past : List Call) (n : ℕ) → Damaged past (quiet n)
 quiet-is past n = tt
 

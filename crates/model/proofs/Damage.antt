@@ -51,6 +51,7 @@ use Rattle.model.proofs.Same.{Alike, same-answer, same-exchange, Same, 
 
 -- ---- effects that change status bits alone
 
+-- a reply time that is reached changes status bits alone
 pub gentle-late : (m : Areas) (o : Option ℕ) → Gentle (effectLater m o)
 gentle-late m none = still
 gentle-late m (some w) = go (sinkFor m w)
@@ -92,9 +93,11 @@ pub record Unharmed (u s : World) : Type 0 where
   pub chosen : s .controller .times .chosen ≡ u .controller .times .chosen
   pub device : s .controller .device ≡ u .controller .device
 
+-- areas left as they were are the same but for status bits
 pub only-same : (m : Areas) → OnlyStatus m m
 only-same m = record { index = refl; page0 = refl; page1 = refl; ports = λ p. inl refl }
 
+-- two changes of status bits alone, one after the other, are one
 pub only-trans : (l m n : Areas) → OnlyStatus l m → OnlyStatus m n → OnlyStatus l n
 only-trans l m n f g =
     record {
@@ -111,6 +114,7 @@ only-trans l m n f g =
     join (inr p) (inl q) = inr (p .0, q ∙ p .1)
     join {a = a} (inr p) (inr q) = inr (q .0, q .1 ∙ ap (λ (w : Words). markedWords w (q .0)) (p .1) ∙ marked-twice a (p .0) (q .0))
 
+-- a valid effect of this kind leaves areas that are the same but for status bits
 pub gentle-only : (e : Effect) (m : Areas) → areasFit m ≡ true → Valid m e → Gentle e → OnlyStatus m (apply e m)
 unfolding apply
 gentle-only untouched m s v still = only-same m
@@ -131,6 +135,7 @@ gentle-alike e m s v g =
     unseen-effect untouched still a o = refl
     unseen-effect (mark p x) marks a o = refl
 
+-- two parts of a stretch that each leave a world unharmed do so together
 pub kept-trans : (u s r : World) → Unharmed u s → Unharmed s r → Unharmed u r
 kept-trans u s r f g =
     record {
@@ -140,6 +145,7 @@ kept-trans u s r f g =
       device = g .device ∙ f .device;
     }
 
+-- a quiet bit time leaves a world unharmed
 pub kept-tick : (s : World) → Shape (s .areas) → Unharmed s (tick s)
 unfolding tick tickController tickEffect
 kept-tick s h =
@@ -149,12 +155,14 @@ kept-tick s h =
     let g = gentle-late m (due s) in
     record { areas = gentle-alike e m h v g; only = gentle-only e m (h .fits) v g; chosen = refl; device = refl }
 
-pub kept-ticks : (n : ℕ) (s : World) → Shape (s .areas) → Unharmed s (ticks n s)
+-- n quiet bit times leave a world unharmed
+kept-ticks : (n : ℕ) (s : World) → Shape (s .areas) → Unharmed s (ticks n s)
 unfolding ticks
 kept-ticks zero s h =
     record { areas = record { shape = h; shape′ = h; stands = λ a. refl }; only = only-same (s .areas); chosen = refl; device = refl }
 kept-ticks (suc n) s h = let k = kept-tick s h in kept-trans s (tick s) (ticks n (tick s)) k (kept-ticks n (tick s) (k .areas .shape))
 
+-- a bus event that is damage leaves the world unharmed, if the invariant holds before it
 pub kept-hear : (past : List Call) (a b : Hearing) → Typed (hear a b) → ToldBy past (after past) → Damaged past (hear a b)
     → Unharmed (after past) (step (hear a b) (after past))
 unfolding step effect heardBy heard
@@ -194,6 +202,7 @@ kept-stretch before (c ∷ more) acc d =
 
 -- ---- the master frame that ends the stretch, and what follows
 
+-- a sound master frame is heard as its master word, whatever the exchange
 pub heard-master : (x : Hearing) → SoundMaster x → (e : Exchange) → asHeard (x .kind) e x ≡ Master (firstWord x)
 heard-master x m e = ap (λ (k : Kind). asHeard k e x) (m .kind) ∙ ap (λ (j : Judgement). asMaster j x) (m .sound)
 
@@ -231,7 +240,8 @@ pub earlier : (later p : List Call) → Accepted (later ++ p) → Accepted p
 earlier [] p acc = acc
 earlier (c ∷ later) p acc = earlier later p (acc .2)
 
-pub answer-same : (d e : Device) (m n : Areas) → Alike m n → d ≡ e → (h : Heard) → answerOf d m h ≡ answerOf e n h
+-- two devices that are equal, over areas that show the same, answer alike whatever is heard
+answer-same : (d e : Device) (m n : Areas) → Alike m n → d ≡ e → (h : Heard) → answerOf d m h ≡ answerOf e n h
 answer-same d e m n k i Nothing = refl
 answer-same d e m n k i Unsound = refl
 answer-same d e m n k i (Master w) = same-answer m n k d w ∙ ap (λ (z : Device). answerTo z n w) i
@@ -260,11 +270,12 @@ master-reply u s k x m =
     )
     (answer-same _ _ _ _ (k .areas) (k .device) (Master (firstWord x)))
 
--- During a stretch of damage only status bits change in the areas, and no address shows anything else.
+-- During a stretch of damage only status bits change in the areas.
 pub stretch-marks : (before stretch : List Call) → Accepted (stretch ++ before) → Damage before stretch
     → OnlyStatus (after before .areas) (after (stretch ++ before) .areas)
 stretch-marks before stretch acc d = kept-stretch before stretch acc d .only
 
+-- And after it every address shows what it showed before.
 pub stretch-unseen : (before stretch : List Call) → Accepted (stretch ++ before) → Damage before stretch
     → (a : ℕ) → view (after (stretch ++ before) .areas) a ≡ view (after before .areas) a
 unfolding view

@@ -65,11 +65,14 @@ pub record Case : Type 0 where
   pub waits : waitingAddress before ≡ some 1
   pub doubt : doubtful before (waitingAddress before) again ≡ some 1
   pub settled : doubtful before (waitingAddress before) later ≡ none
+  -- word 1 after the master frame: SINK, TERR and CRC with the slave frame, SINK alone without it
   pub with-it : portAt (after (again ++ (wrong ∷ before)) .areas) 1 .flags ≡ 104
   pub without : portAt (after (again ++ before) .areas) 1 .flags ≡ 8
+  -- word 1 after the reply time: SINK and STO in both runs
   pub with-it-later : portAt (after (later ++ (wrong ∷ before)) .areas) 1 .flags ≡ 24
   pub without-later : portAt (after (later ++ before) .areas) 1 .flags ≡ 24
 
+-- The case holds: both runs are computed.
 pub case : Case
 unfolding waitingAddress finishes doubtful awaited after step event hearController heardBy heard judgedMaster judgedSlave judged countsRight checksRight rightAt checkAt checkOf rest pushes push onesOf ones blocks wordsOf expectedOf sizes replyTold openingOf writesSince effect hearEffect start freshController clearedAreas areasFit wordsAt withWords bitAt flagsOf wordOf zeroBits wellFormed seek standingOf standing openWords markedWords apply rule1 rule2 rule3 rule4 rule5 portFor answerTo exchangeFor tickEffect tickController tick ticks refusal dueWithin lastSettings
 case =

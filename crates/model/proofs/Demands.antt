@@ -44,6 +44,7 @@ module _ (past : List Call) (run : Accepted past) where
 
   -- ---- in a run every area keeps the shape our calls give it, and then no call is refused with 6
 
+  -- In a run the areas keep the shape that our calls give them.
   pub shaped : Shape (now .areas)
   shaped = past-told past run .holds .shape
 
@@ -92,29 +93,32 @@ module _ (past : List Call) (run : Accepted past) where
     standing-told : standing (now .areas) a ≡ some (standingWith o (lastOf filled) (length filled % 65536))
     standing-told = past-told past run .holds .stands a ∙ ap (toldStanding past a) stands
 
-    -- Asking answers never exactly where nothing filled the port since it was opened, and is not refused; fetching hands back the words that
-    -- filled it last, and nothing where none did. An empty port says that it is empty.
+    -- Asking answers never exactly where nothing filled the port since it was opened: an empty port says that it is empty.
     pub ask-never : (asked (now .areas) a ≡ Never) ↔ (filled ≡ [])
     ask-never =
         let x = asks-never (now .areas) shaped a _ standing-told in
         let y = last-none filled in
         (λ e. y .0 (x .0 e), λ e. x .1 (y .1 e))
 
+    -- Asking an open port is not refused.
     pub ask-open : refusalOf (asked (now .areas) a) ≡ 0
     ask-open = asked-number (now .areas) a ∙ readable (now .areas) shaped a _ standing-told
 
+    -- Fetching hands back the words that filled the port last, and nothing where none did.
     pub fetch-shows : fetched (now .areas) a ≡ shownWords (lastOf filled)
     fetch-shows = fetches (now .areas) shaped a _ standing-told
 
-  -- FC is the number of judged frames modulo 65,536, EC that of the unsound ones since it was last cleared, at most 65,535.
+  -- FC is the number of frames judged since the last reset, modulo 65,536.
   pub fc-counted : now .controller .counts .fc ≡ framesJudged past % 65536
   fc-counted = past-told past run .fc
 
+  -- EC is the number of unsound frames since it was last cleared, at most 65,535.
   pub ec-counted : now .controller .counts .ec ≡ min (framesUnsound past) 65535
   ec-counted = past-told past run .ec
 
   -- ---- no call of a run meets a damaged entry or damaged port words
 
+  -- No call after a run is refused with 6.
   pub never-damaged : (c : Call) → refusal c now ≡ 6 → ⊥
   never-damaged = undamaged now shaped
 

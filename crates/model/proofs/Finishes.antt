@@ -67,7 +67,8 @@ module _ (past : List Call) (m : Areas) (stands : (a : ℕ) → standing m a ≡
               (sym (le-leb (codeOf w) 4 (rw (eqb-true (o .word) w i) at (standing-at m (addressOf w) (shown o) e .code))) ∙ p))
           by false i = refl
 
-  pub sink-open-told : (o : Option ℕ) → sinkPort m o ≡ sinkOpen past o
+  -- the open sink with a master word has the same number by the areas and by the past
+  sink-open-told : (o : Option ℕ) → sinkPort m o ≡ sinkOpen past o
   sink-open-told none = refl
   sink-open-told (some w) = sink-told w
 
@@ -84,6 +85,7 @@ module _ (past : List Call) (m : Areas) (stands : (a : ℕ) → standing m a ≡
 
 -- ---- which port an effect concerns
 
+-- a missing reply concerns the sink that waited for it, if there is one
 pub missed-port : (o : Option Standing) → portAffected (missed o) ≡ portIn o
 missed-port none = refl
 missed-port (some v) = refl
@@ -108,6 +110,7 @@ heard-port m h SlaveFrame Done t l = refl
 heard-port m h SlaveFrame (Waiting w) t l = rw (waits-now w t l) (taken-port (sinkFor m w) (judgedSlave (codeOf w) h) h)
 
 module _ (past : List Call) (h : ToldBy past (after past)) where
+  -- the sink whose word the controller waits for is the port that waits by the past
   pub waiting-told : sinkPort (after past .areas) (waitNow (after past .controller .exchange) (after past .controller .times) 0) ≡ waitingPort past
   unfolding waitingPort
   waiting-told =
@@ -127,10 +130,12 @@ module _ (past : List Call) (h : ToldBy past (after past)) where
 
 -- ---- quiet time: the port in doubt, bit time for bit time and at once
 
+-- before any bit time has passed no wait is over
 pub over-now : (m : Areas) (o : Option ℕ) → over o (sinkPort m o) ≡ none
 over-now m none = refl
 over-now m (some w) = refl
 
+-- one bit time and then n more leave the same port in doubt as n + 1 at once
 pub over-later : (m : Areas) (o : Option ℕ) (n : ℕ) (x : Exchange) (t : Times) → Live x t → t .adopted ≤ 128
     → settle
     (over (waitNow (exchangeLater x (expired x t)) (timesLater t) n)

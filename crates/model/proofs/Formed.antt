@@ -3,7 +3,7 @@
 use mathlib.Core.Option.{Option, none, some}
 use Prim.Native.Nat.{ℕ, _*_, _≤_, _<_}
 use mathlib.Core.Path.{_≡_, refl, sym, _∙_}
-use mathlib.Core.Bool.{Bool, true, false, not, _&&_, false≢true}
+use mathlib.Core.Bool.{Bool, true, false, not, _&&_, false≢true, and-eq-true-iff}
 use native.Mathlib.Omega.{arith}
 use borrow.Author.Tests.{leb-true, eqb-true, le-leb, eq-eqb}
 use lib.ListN.{length}
@@ -17,13 +17,13 @@ use Rattle.model.specs.Ports.{codeOf, addressOf, wordsIn, sizeOf, oneSid
 use Rattle.model.specs.Ports.{markedWords, openWords}
 use Rattle.model.proofs.Bits.{flags-of-word, zero-bits}
 
+-- where `and` of two tests holds, the first holds
 pub and-left : (a b : Bool) → (a && b) ≡ true → a ≡ true
-and-left true b e = refl
-and-left false b e = absurd (false≢true e)
+and-left a b e = and-eq-true-iff a b .0 e .0
 
+-- where `and` of two tests holds, the second holds
 pub and-right : (a b : Bool) → (a && b) ≡ true → b ≡ true
-and-right true b e = e
-and-right false b e = absurd (false≢true e)
+and-right a b e = and-eq-true-iff a b .0 e .1
 
 -- ---- the areas have their lengths
 
@@ -33,6 +33,7 @@ pub record Lengths (m : Areas) : Type 0 where
   pub page0 : length (m .page0) ≡ 4096
   pub page1 : length (m .page1) ≡ 4096
 
+-- areas that fit have these lengths
 pub lengths : (m : Areas) → areasFit m ≡ true → Lengths m
 unfolding areasFit
 lengths m e =
@@ -52,6 +53,7 @@ pub record Formed (a : ℕ) (w : Words) : Type 0 where
   pub zeros : zeroBits (w .flags) ≡ true
   pub interrupt : w .interrupt ≤ 7
 
+-- words that pass the test are right in these five parts
 pub formed : (a : ℕ) (w : Words) → wellFormed a w ≡ true → Formed a w
 unfolding wellFormed
 formed a w e =
@@ -92,10 +94,12 @@ flagged a w g n same e =
       interrupt = f .interrupt;
     })
 
+-- a fill leaves words well formed
 pub filled-formed : (a : ℕ) (w : Words) → wellFormed a w ≡ true → wellFormed a (filledWords w) ≡ true
 unfolding filledWords
 filled-formed a w e = flagged a w (turned (flagsOf (w .flags))) (filledWords w .fills) refl e
 
+-- other status bits leave words well formed
 pub marked-formed : (a : ℕ) (w : Words) (x : Faults) → wellFormed a w ≡ true → wellFormed a (markedWords w x) ≡ true
 unfolding markedWords
 marked-formed a w x e = flagged a w (faulty (flagsOf (w .flags)) x) (w .fills) refl e
@@ -104,6 +108,7 @@ marked-formed a w x e = flagged a w (faulty (flagsOf (w .flags)) x) (w .fills) r
 abbrev pub openFlags : Bool → Flags
 openFlags sink = record { vp = false; ever = false; src = not sink; sink = sink; faults = noFaults }
 
+-- the words of a port just opened are well formed for its address, if the arguments are in range
 pub open-formed : (a code : ℕ) (sink : Bool) (i : ℕ) → a < 4096 → code ≤ 4 → i ≤ 7 → wellFormed a (openWords a code sink i) ≡ true
 unfolding openWords
 open-formed a code sink i ha hc hi =
@@ -127,6 +132,7 @@ formed-used a w e z = false≢true (rw z at (formed a w e .side))
 
 -- ---- sizes: none is above sixteen words
 
+-- a port has at most sixteen words, whatever its F-code
 pub size-small : (code : ℕ) → sizeOf code ≤ 16
 unfolding sizeOf
 size-small code = go (expectedOf code) refl

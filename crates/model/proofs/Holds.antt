@@ -18,6 +18,8 @@ use Rattle.model.proofs.Waits.{waitNow, Live, waits-later, live-later}
 
 -- ---- areas and exchange, against what is to be shown and waited for
 
+-- S has what stands at each address, W the master word that is waited for after so many quiet bit times more; the adopted reply time is at
+-- most 128
 pub record Holds (W : ℕ → Option ℕ) (S : ℕ → Option Standing) (x : Exchange) (t : Times) (m : Areas) : Type 0 where
   pub shape : Shape m
   pub stands : (a : ℕ) → standing m a ≡ S a
@@ -34,10 +36,12 @@ missed-valid m w = go (sinkFor m w) refl
     go none e = nothing
     go (some v) e = marking (sink-at m w v e)
 
+-- what a reply time that is reached does to the areas is valid
 pub later-valid : (m : Areas) (o : Option ℕ) → Valid m (effectLater m o)
 later-valid m none = nothing
 later-valid m (some w) = missed-valid m w
 
+-- and it is seen at no address
 pub unseen : (m : Areas) (o : Option ℕ) (a : ℕ) (v : Option Standing) → standingAfter (effectLater m o) a v ≡ v
 unseen m none a v = refl
 unseen m (some w) a v = go (sinkFor m w)
@@ -46,7 +50,8 @@ unseen m (some w) a v = go (sinkFor m w)
     go none = refl
     go (some u) = refl
 
-abbrev pub HoldsAt : (ℕ → Option ℕ) → (ℕ → Option Standing) → World → Type 0
+-- a world whose areas, exchange and times hold so
+abbrev HoldsAt : (ℕ → Option ℕ) → (ℕ → Option Standing) → World → Type 0
 HoldsAt W S s = Holds W S (s .controller .exchange) (s .controller .times) (s .areas)
 
 tick-holds : (W : ℕ → Option ℕ) (S : ℕ → Option Standing) (s : World) → HoldsAt W S s → HoldsAt (λ q. W (1 + q)) S (tick s)
@@ -70,11 +75,13 @@ pub record Lasting (c e : Controller) : Type 0 where
   pub counts : e .counts ≡ c .counts
   pub device : e .device ≡ c .device
 
+-- n quiet bit times leave the chosen reply time, the counts and the device
 pub ticks-lasting : (n : ℕ) (s : World) → Lasting (s .controller) (ticks n s .controller)
 unfolding ticks tick tickController
 ticks-lasting zero s = record { chosen = refl; counts = refl; device = refl }
 ticks-lasting (suc n) s = let h = ticks-lasting n (tick s) in record { chosen = h .chosen; counts = h .counts; device = h .device }
 
+-- after n quiet bit times every address shows the same, and the wait is n bit times further
 pub ticks-hold : (n : ℕ) (W : ℕ → Option ℕ) (S : ℕ → Option Standing) (s : World) → HoldsAt W S s → HoldsAt (λ q. W (n + q)) S (ticks n s)
 unfolding ticks
 ticks-hold zero W S s h =

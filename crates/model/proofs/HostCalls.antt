@@ -21,6 +21,7 @@ pub data Sort : Call → Type 0 where
   pause : {n : ℕ} → Sort (quiet n)
   host : {c : Call} → Hosts c → Sort c
 
+-- every call is of one of these sorts
 pub sort : (c : Call) → Sort c
 sort (hear a b) = event
 sort (quiet n) = pause

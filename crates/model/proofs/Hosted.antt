@@ -41,6 +41,7 @@ told-same : (past more : List Call) (a : ℕ) (o : Option Opening) → ((w : ℕ
 told-same past more a none f g = refl
 told-same past more a (some o) f g = rw (f (o .word), g)
 
+-- the invariant holds after quiet time
 pub quiet-told : (past : List Call) (n : ℕ) → ToldBy past (after past) → ToldBy (quiet n ∷ past) (step (quiet n) (after past))
 unfolding step awaited framesJudged framesUnsound openingOf answersSince writesSince countSince lastSettings
 quiet-told past n h =
@@ -138,6 +139,7 @@ module _ (past : List Call) (c : Call) (f : ℕ → Change) (h : happening c ≡
         ec = rw h (told .ec);
       }
 
+-- the invariant holds after an accepted opening
 pub open-told : (past : List Call) (b p code : ℕ) (sink : Bool) (i : ℕ) → refusal (openPort b p code sink i) (after past) ≡ 0
     → ToldBy past (after past)
     → ToldBy (openPort b p code sink i ∷ past) (step (openPort b p code sink i) (after past))
@@ -152,6 +154,7 @@ open-told past b p code sink i r =
     go true v = (tt, refl)
     go false v = (tt, refl)
 
+-- the invariant holds after an accepted closing
 pub close-told : (past : List Call) (b : ℕ) → refusal (closePort b) (after past) ≡ 0 → ToldBy past (after past)
     → ToldBy (closePort b ∷ past) (step (closePort b) (after past))
 unfolding step effect
@@ -199,10 +202,12 @@ module _ (past : List Call) (b : ℕ) (ws : List ℕ) (r : refusal (writePort b 
           (sym (ap (λ (x : Standing). x .sink) w) ∙ write-source b ws (after past) r, refl)
       go false z = (tt, refl)
 
+  -- the invariant holds after an accepted write
   pub write-told : ToldBy past (after past) → ToldBy (writePort b ws ∷ past) (step (writePort b ws) (after past))
   unfolding step effect
   write-told = area-told past (writePort b ws) _ refl (fill (entry M b) ws) (valid-write b ws (after past) r) written-seen
 
+-- the invariant holds after a reading, which changes nothing
 pub read-told : (past : List Call) (b : ℕ) → ToldBy past (after past) → ToldBy (readPort b ∷ past) (step (readPort b) (after past))
 unfolding step apply
 read-told past b = area-told past (readPort b) _ refl untouched nothing (λ a v e. (tt, refl))
@@ -306,6 +311,7 @@ module _ (past : List Call) (c : Controller) (m : Areas) (h : Told past c m) whe
         ec = refl;
       }
 
+  -- the invariant holds after a setting that is in range
   pub set-told : (t : Setting) → settingOut t ≡ false → Told (setting t ∷ past) (tell t c) m
   unfolding tell framesJudged framesUnsound countSince lastSettings
   set-told (address a) e = kept-told past (address a) c (tell (address a) c) m refl refl refl refl (h .status) refl (h .fc) (h .ec) h

@@ -41,9 +41,11 @@ use Rattle.model.proofs.Replies.{statusNow, exact-told}
 
 -- ---- the invariant
 
+-- what the past tells of an address stands there, what it tells is waited for, and settings and counts are those of the past
 pub record Told (past : List Call) (c : Controller) (m : Areas) : Type 0 where
   pub holds : Holds (awaited past) (λ a. toldStanding past a (openingOf past a)) (c .exchange) (c .times) m
   pub chosen : c .times .chosen ≡ lastSettings past .replyTime
+  -- the chosen reply time is some time, and at most 128
   pub some-time : 0 < lastSettings past .replyTime
   pub short-time : lastSettings past .replyTime ≤ 128
   pub status : statusNow (c .device) ≡ lastSettings past .status
@@ -121,6 +123,7 @@ short-heard t h SlaveFrame Idle a c = a
 short-heard t h SlaveFrame (Waiting w) a c = a
 short-heard t h SlaveFrame Done a c = a
 
+-- no bus event changes the reply time that the host chose
 pub chosen-heard : (t : Times) (h : Hearing) (k : Kind) (x : Exchange) → timesAfter t (asHeard k x h) .chosen ≡ t .chosen
 chosen-heard t h Silence x = refl
 chosen-heard t h Noise x = refl
@@ -133,13 +136,16 @@ chosen-heard t h SlaveFrame Idle = refl
 chosen-heard t h SlaveFrame (Waiting w) = refl
 chosen-heard t h SlaveFrame Done = refl
 
+-- what holds of both hearings holds of the one that is trusted
 pub one-of : (b : Bool) (P : Hearing → Type 0) {x y : Hearing} → P x → P y → P (cond b x y)
 one-of true P p q = p
 one-of false P p q = q
 
+-- the invariant of a world, after a past
 abbrev pub ToldBy : List Call → World → Type 0
 ToldBy past s = Told past (s .controller) (s .areas)
 
+-- The invariant holds after a bus event.
 pub hear-told : (past : List Call) (a b : Hearing) → Typed (hear a b) → ToldBy past (after past)
     → ToldBy (hear a b ∷ past) (step (hear a b) (after past))
 unfolding step effect heardBy heard awaited answers judgement framesJudged framesUnsound openingOf countSince lastSettings

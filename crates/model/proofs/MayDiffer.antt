@@ -62,6 +62,7 @@ pub record Near (o : Option ℕ) (u s : World) : Type 0 where
   pub chosen : s .controller .times .chosen ≡ u .controller .times .chosen
   pub device : s .controller .device ≡ u .controller .device
 
+-- of such worlds all is the same that a stretch of damage leaves the same
 pub near-kept : {o : Option ℕ} {u s : World} → Near o u s → Unharmed u s
 near-kept n = record { areas = n .areas; only = n .but .only; chosen = n .chosen; device = n .device }
 
@@ -78,7 +79,7 @@ chosen-set (group0 g) c d e = e
 chosen-set (group1 g) c d e = e
 
 -- from two accepted runs, of which the one is a longer past, any host calls
-pub near-hosts : (short long : List Call) (o : Option ℕ) → Accepted short → Near o (after short) (after long) → (between : List Call)
+near-hosts : (short long : List Call) (o : Option ℕ) → Accepted short → Near o (after short) (after long) → (between : List Call)
     → AllHosts between → Accepted (between ++ long)
     → Accepted (between ++ short) × Near (doubtfulPort short o between) (after (between ++ short)) (after (between ++ long))
 unfolding after doubtfulPort
@@ -105,6 +106,7 @@ near-stretch before stretch d acc =
     let k = kept-stretch before stretch acc d in
     record { areas = k .areas; but = stretch-but before stretch acc d; chosen = k .chosen; device = k .device }
 
+-- a stretch of damage and any host calls after it: the run without the stretch is accepted too, and the worlds are near
 pub near-between : (before stretch between : List Call) → Damage before stretch → AllHosts between
     → Accepted (between ++ (stretch ++ before))
     → Accepted (between ++ before)
@@ -175,11 +177,13 @@ but-master : (past : List Call) (s : World) (o : Option ℕ) → ButPort o (afte
 unfolding step apply finished
 but-master past s o b x m = rw (master-effect x m (after past), master-effect x m s) b
 
+-- after the master frame: the worlds are the same, but for status bits of port o, if there is one
 pub record Joined (o : Option ℕ) (u s : World) : Type 0 where
   pub same : Same s u
   pub but : ButPort o (u .areas) (s .areas)
 
-pub joined-from : (short long : List Call) (o : Option ℕ) → Accepted short → Near o (after short) (after long) → (calls : List Call)
+-- from two accepted runs whose worlds are near, any calls that may follow a stretch lead to joined worlds
+joined-from : (short long : List Call) (o : Option ℕ) → Accepted short → Near o (after short) (after long) → (calls : List Call)
     → Follows calls → Accepted (calls ++ long)
     → Accepted (calls ++ short) × Joined (doubtfulPort short o calls) (after (calls ++ short)) (after (calls ++ long))
 unfolding after doubtfulPort
@@ -207,6 +211,7 @@ joined-from short long o run n calls (then {c} {calls = later} al f) acc =
       },
     )
 
+-- a stretch of damage and any calls that may follow it: the run without the stretch is accepted too, and the worlds are joined
 pub joined : (before stretch : List Call) → Damage before stretch → (calls : List Call) → Follows calls
     → Accepted (calls ++ (stretch ++ before))
     → Accepted (calls ++ before)

@@ -24,6 +24,7 @@ abbrev pub sinkNumber : ℕ → Option Opening → Option ℕ
 sinkNumber w none = none
 sinkNumber w (some o) = cond (eqb (o .word) w && o .sink) (some (o .port)) none
 
+-- the number of the open sink with this master word, if there is a word
 abbrev pub sinkOpen : List Call → Option ℕ → Option ℕ
 sinkOpen past none = none
 sinkOpen past (some w) = sinkNumber w (openingOf past (addressOf w))
@@ -52,6 +53,7 @@ finishedAs past (passes n) e = over (awaited past n) (waitingPort past)
 finishedAs past (sets t) e = portAffected e
 finishedAs past (changes f) e = portAffected e
 
+-- the port whose status bits a call sets, after a past
 unfoldable pub finished : List Call → Call → Option ℕ
 finished past c = finishedAs past (happening c) (effect c (after past))
 

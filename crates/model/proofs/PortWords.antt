@@ -21,10 +21,12 @@ with-sets : (l : List ℕ) (p : ℕ) (w : Words) → withWords l p w ≡ sets l 
 unfolding withWords
 with-sets l p w = simp towards-suc
 
+-- the words of a port written anew leave the area its length
 pub length-with : (l : List ℕ) (p : ℕ) (w : Words) → length (withWords l p w) ≡ length l
 unfolding withWords
 length-with l p w = simp length-set
 
+-- the words written to a port are read back, if they lie inside the area
 pub words-same : (l : List ℕ) (p : ℕ) (w : Words) → place p + stride ≤ length l → wordsAt (withWords l p w) p ≡ w
 unfolding wordsAt
 words-same l p w h =
@@ -32,6 +34,7 @@ words-same l p w h =
     λ k b. rw (with-sets l p w) (stored-at l (place p) (listed w) k (omega arith) b) in
     rw (rw (add-zero (place p)) at (at 0 (lit< tt)), at 1 (lit< tt), at 2 (lit< tt), at 3 (lit< tt))
 
+-- they leave every other port's words as they were
 pub words-other : (l : List ℕ) (p q : ℕ) (w : Words) → q ≢ p → wordsAt (withWords l p w) q ≡ wordsAt l q
 unfolding wordsAt
 words-other l p q w ne =

@@ -92,10 +92,12 @@ module _ (m : Areas) (shape : Shape m) (a : ℕ) (v : Standing) (seen : standing
       let at = standing-at m a v seen in
       ap (λ (x : Standing). x .shows) (at .whole ∙ ap (standingOf m) (at .port))
 
+  -- asking answers never exactly where the port shows no words
   pub asks-never : (asked m a ≡ Never) ↔ (v .shows ≡ none)
   unfolding asked
   asks-never = rw (readable, whole) (never-empty (flagsOf (portAt m (entry m a) .flags)) (validWords m (entry m a)))
 
+  -- fetching hands back the words that the port shows, and nothing where it shows none
   pub fetches : fetched m a ≡ shownWords (v .shows)
   unfolding asked fetched
   fetches = rw (readable, whole) (part-shown (flagsOf (portAt m (entry m a) .flags)) (validWords m (entry m a)))

@@ -28,7 +28,8 @@ pub one-first : {ts : List Test} {n : ℕ} → First ts n → firstOf ts ≡ n
 one-first (here e) = rw e
 one-first (later e f) = rw e (one-first f)
 
-pub silent-zero : (ts : List Test) → Silent ts → firstOf ts ≡ 0
+-- the number is 0 where no test holds
+silent-zero : (ts : List Test) → Silent ts → firstOf ts ≡ 0
 silent-zero [] s = refl
 silent-zero (t ∷ ts) s = rw (s .0) (silent-zero ts (s .1))
 
@@ -47,7 +48,8 @@ positive : {ts : List Test} {n : ℕ} → First ts n → 0 < n
 positive (here {t} e) = numbered (t .name)
 positive (later e f) = positive f
 
-pub zero-silent : (ts : List Test) → firstOf ts ≡ 0 → Silent ts
+-- and where it is 0 no test holds
+zero-silent : (ts : List Test) → firstOf ts ≡ 0 → Silent ts
 zero-silent ts e = go (tells ts)
   where
     go : ((firstOf ts ≡ 0) × Silent ts) ⊎ First ts (firstOf ts) → Silent ts
@@ -83,6 +85,7 @@ pub accepted : (c : Call) (s : World) → refusal c s ≡ 0 → (k : TestName) �
 unfolding refusal
 accepted c s e = by-name (tests c s) (zero-silent (tests c s) e)
 
+-- a call none of whose tests holds is accepted
 pub accepts : (c : Call) (s : World) → Silent (tests c s) → refusal c s ≡ 0
 unfolding refusal
 accepts c s p = silent-zero (tests c s) p
@@ -92,6 +95,7 @@ pub refused : (c : Call) (s : World) (n : ℕ) → First (tests c s) n → refus
 unfolding refusal
 refused c s n f = one-first f
 
+-- And a call that is not accepted is refused with the number of the first test that holds.
 pub refused-only : (c : Call) (s : World) → (refusal c s ≡ 0 → ⊥) → First (tests c s) (refusal c s)
 unfolding refusal
 refused-only c s h = go (tells (tests c s))

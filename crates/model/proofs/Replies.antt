@@ -2,7 +2,7 @@
 -- source shows have that size. Assumes nothing.
 use Prim.Native.Nat.{ℕ, zero, suc, _*_, _%_, _≤_}
 use mathlib.Core.Path.{_≡_, refl, sym, _∙_, ap}
-use mathlib.Core.Bool.{Bool, true, false, cond, not, _&&_, _||_}
+use mathlib.Core.Bool.{Bool, true, false, cond, not, _&&_, _||_, and-eq-true-iff}
 use mathlib.Core.List.{List, [], _∷_}
 use mathlib.Core.Option.{Option, none, some}
 use native.Mathlib.Omega.{arith}
@@ -24,7 +24,7 @@ use Rattle.model.specs.Event.{openFor, portFor, ifSource, sourceFor, pol
 use Rattle.model.specs.Calls.{Call}
 use Rattle.model.specs.Past.{Opening, openingOf, writesSince, lastOf, fillings, sourceTold, lastSettings, statusTold, replyTold}
 use Rattle.model.proofs.ToldPort.{standingWith, toldStanding}
-use Rattle.model.proofs.Accepted.{both-hold, port-open}
+use Rattle.model.proofs.Accepted.{port-open}
 use Rattle.model.proofs.Stored.{stored-part}
 use Rattle.model.proofs.Formed.{lengths, size-small}
 use Rattle.model.proofs.Standings.{standing-at}
@@ -64,12 +64,13 @@ sent-sound code n ws e l =
 
 -- ---- the words of a port have its size
 
+-- the first n words of a port in a page are n words, if n is at most sixteen
 pub part-size : (page : List ℕ) (p n : ℕ) → length page ≡ 4096 → p ≤ 255 → n ≤ 16 → length (partOf page p n) ≡ n
 unfolding partOf
 part-size page p n l h k = length-take-le n (drop (16 * p) page) (omega (arith, length-drop (16 * p) page))
 
 -- The words that an address shows have the size of its F-code.
-pub shown-size : (m : Areas) (a : ℕ) (v : Standing) → areasFit m ≡ true → standing m a ≡ some v → (ws : List ℕ) → v .shows ≡ some ws
+shown-size : (m : Areas) (a : ℕ) (v : Standing) → areasFit m ≡ true → standing m a ≡ some v → (ws : List ℕ) → v .shows ≡ some ws
     → length ws ≡ sizeOf (codeOf (v .word))
 unfolding standingOf
 shown-size m a v s e ws q =
@@ -96,7 +97,7 @@ shown-size m a v s e ws q =
 -- ---- what is answered to a sound master frame
 
 -- F-codes 0 to 4 expect a reply
-pub expected-port : (code : ℕ) → code ≤ 4 → (n : ℕ) × (expectedOf code ≡ some n)
+expected-port : (code : ℕ) → code ≤ 4 → (n : ℕ) × (expectedOf code ≡ some n)
 unfolding expectedOf sizes
 expected-port zero h = (1, refl)
 expected-port (suc zero) h = (2, refl)
@@ -106,7 +107,7 @@ expected-port (suc (suc (suc (suc zero)))) h = (16, refl)
 expected-port (suc (suc (suc (suc (suc c))))) h = absurd (omega arith)
 
 -- and so does a status poll
-pub poll-expects : expectedOf 15 ≡ some 1
+poll-expects : expectedOf 15 ≡ some 1
 unfolding expectedOf sizes
 poll-expects = refl
 
@@ -152,6 +153,7 @@ answer-sound d m w s ws e = go (expectedOf (codeOf w)) refl (sourceFor m w) refl
 
 -- ---- the answer, from the past
 
+-- the status word that the host set, if it set one
 abbrev pub statusNow : Device → Option ℕ
 statusNow d = cond (d .set) (some (d .status)) none
 
@@ -187,10 +189,10 @@ module _ (past : List Call) (d : Device) (m : Areas) (stands : (a : ℕ) → sta
       own (some ws) = refl
 
   -- A status poll to our address is answered with the status word last set, or not at all.
-  pub status-told : (w : ℕ) → pollsUs d w ≡ true → statusNow d ≡ lastSettings past .status → answerTo d m w ≡ statusTold (lastSettings past .status)
+  status-told : (w : ℕ) → pollsUs d w ≡ true → statusNow d ≡ lastSettings past .status → answerTo d m w ≡ statusTold (lastSettings past .status)
   unfolding answerTo portFor
   status-told w p e =
-      let q = both-hold _ _ p in
+      let q = and-eq-true-iff _ _ .0 p in
       let c : codeOf w ≡ 15 = eqb-true _ _ (q .0) in
       rw (c, poll-expects, q .0, q .1) (go (d .set) ∙ ap statusTold e)
     where

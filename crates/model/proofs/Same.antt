@@ -38,14 +38,17 @@ pub record Alike (m n : Areas) : Type 0 where
   pub stands : (a : ℕ) → standing m a ≡ standing n a
 
 module _ (m n : Areas) (k : Alike m n) where
+  -- the same port is open for a master word
   pub same-port : (w : ℕ) → portFor m w ≡ portFor n w
   unfolding portFor
   same-port w = rw (k .stands (addressOf w))
 
+  -- a sound master frame gets the same answer
   pub same-answer : (d : Device) (w : ℕ) → answerTo d m w ≡ answerTo d n w
   unfolding answerTo
   same-answer d w = rw (same-port w)
 
+  -- whatever is heard leaves the same exchange, if it was the same before
   pub same-exchange : (d : Device) (x : Exchange) (h : Heard) → exchangeAfter d m x h ≡ exchangeAfter d n x h
   unfolding exchangeFor
   same-exchange d x Nothing = refl
@@ -54,6 +57,7 @@ module _ (m n : Areas) (k : Alike m n) where
   same-exchange d x (Reply w j) = refl
   same-exchange d x Stray = refl
 
+  -- whatever is heard has the same effect
   pub same-effect : (h : Heard) (y : Hearing) → effectOf m h y ≡ effectOf n h y
   same-effect Nothing y = refl
   same-effect Unsound y = refl
@@ -61,6 +65,7 @@ module _ (m n : Areas) (k : Alike m n) where
   same-effect (Reply w j) y = rw (same-port w)
   same-effect Stray y = refl
 
+  -- a reply time that is reached has the same effect
   pub same-missed : (o : Option ℕ) → effectLater m o ≡ effectLater n o
   same-missed none = refl
   same-missed (some w) = rw (same-port w)
@@ -75,7 +80,7 @@ module _ (m n : Areas) (k : Alike m n) where
           sym (standing-at m a v e .port) ∙ standing-at n a v (sym (k .stands a) ∙ e) .port
 
   -- one effect on both
-  pub alike-apply : (e : Effect) → Valid m e → Valid n e → Alike (apply e m) (apply e n)
+  alike-apply : (e : Effect) → Valid m e → Valid n e → Alike (apply e m) (apply e n)
   alike-apply e p q =
       record {
         shape = shape-apply e m (k .shape) p;
@@ -83,11 +88,13 @@ module _ (m n : Areas) (k : Alike m n) where
         stands = λ a. standing-apply e m a (k .shape) p ∙ ap (standingAfter e a) (k .stands a) ∙ sym (standing-apply e n a (k .shape′) q);
       }
 
-  pub alike-effects : {e f : Effect} → e ≡ f → Valid m e → Valid n f → Alike (apply e m) (apply f n)
+  -- two effects that are equal, one on each
+  alike-effects : {e f : Effect} → e ≡ f → Valid m e → Valid n f → Alike (apply e m) (apply f n)
   alike-effects {e} {f} i p q = subst (λ (g : Effect). Alike (apply e m) (apply g n)) i (alike-apply e p (subst (Valid n) (sym i) q))
 
 -- ---- worlds
 
+-- two worlds whose addresses show the same, with the same exchange, times and device
 pub record Same (s u : World) : Type 0 where
   pub areas : Alike (s .areas) (u .areas)
   pub exchange : s .controller .exchange ≡ u .controller .exchange
@@ -136,9 +143,11 @@ module _ (s u : World) (k : Same s u) where
         device = k .device;
       })
 
+  -- the reply time of the same master word is reached, if any is
   pub same-due : due s ≡ due u
   same-due = ap₂ expired (k .exchange) (k .times)
 
+  -- a quiet bit time leaves them the same
   pub same-tick : Same (tick s) (tick u)
   unfolding tick tickController tickEffect
   same-tick =
@@ -179,8 +188,9 @@ pub alike-host : (s u : World) → Alike (s .areas) (u .areas) → (c : Call) �
 alike-host s u k c h p q =
     rw (host-step c h s, host-step c h u) (alike-effects _ _ k (same-host s u k c h) (host-valid c h s p) (host-valid c h u q))
 
--- a part of the controller that a setting makes the same from the same is the same after every host call
+-- a part of the controller that a setting makes the same from the same
 module _ {A : Type 0} (f : Controller → A) (set : (t : Setting) (c d : Controller) → f c ≡ f d → f (tell t c) ≡ f (tell t d)) where
+  -- it is the same after a host call, if it was before
   pub part-host : (c : Call) → Hosts c → (s u : World) → f (s .controller) ≡ f (u .controller)
       → f (step c s .controller) ≡ f (step c u .controller)
   part-host c h s u e = rw (host-step c h s, host-step c h u) (by (happening c))
@@ -215,6 +225,7 @@ times-set reset c d e = refl
 times-set (group0 g) c d e = e
 times-set (group1 g) c d e = e
 
+-- a setting leaves the same device where it was the same
 pub device-set : (t : Setting) (c d : Controller) → c .device ≡ d .device → tell t c .device ≡ tell t d .device
 unfolding tell
 device-set (address a) c d e = ap (λ (x : Device). device a (x .set) (x .status)) e

@@ -166,6 +166,7 @@ accepted-back before stretch d long calls (then {c} {calls = later} al f) short 
 
 -- ---- the address in doubt is the one that waited, and a finished exchange there ends the doubt for good
 
+-- The address in doubt after any calls is the one that was at first, or there is none.
 pub one-doubt : (past : List Call) (o : Option ℕ) (calls : List Call) → (doubtful past o calls ≡ o) ⊎ (doubtful past o calls ≡ none)
 unfolding doubtful
 one-doubt past o [] = inl refl
@@ -185,6 +186,7 @@ unfolding doubtful
 no-more past o [] calls e = e
 no-more past o (c ∷ later) calls e = rw (no-more past o later calls e)
 
+-- After a call that finishes the exchange at that address none is in doubt, whatever calls follow.
 pub doubt-ends : (past : List Call) (a : ℕ) (later calls : List Call) (c : Call) → finishes (calls ++ past) c a ≡ true
     → doubtful past (some a) (later ++ (c ∷ calls)) ≡ none
 unfolding doubtful

@@ -62,6 +62,7 @@ abbrev pub justOpened : ℕ → ℕ → ℕ → Bool → ℕ → Standing
 justOpened a p code sink i =
     record { port = p; word = masterWord code a; sink = sink; interrupt = i; shows = none; fills = 0 }
 
+-- what stands at an address, after words filled port p: it shows them if it is this port
 abbrev pub refillIf : ℕ → List ℕ → Option Standing → Option Standing
 refillIf p ws none = none
 refillIf p ws (some v) = some (cond (eqb (v .port) p) (refill ws v) v)

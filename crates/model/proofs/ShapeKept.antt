@@ -37,6 +37,7 @@ cleared-entry : (a : ℕ) → entry clearedAreas a ≡ 0
 unfolding clearedAreas
 cleared-entry a = zero-at 4096 a
 
+-- cleared areas have the shape
 pub shape-cleared : Shape clearedAreas
 unfolding clearedAreas areasFit wordsAt
 shape-cleared =
@@ -46,6 +47,7 @@ shape-cleared =
       ports = λ p h few. inl (zero-at (stride * 256) (place p + 1));
     }
 
+-- and nothing stands at any of their addresses
 pub standing-cleared : (a : ℕ) → standing clearedAreas a ≡ none
 standing-cleared a = standing-none clearedAreas a (cleared-entry a)
 
@@ -60,6 +62,7 @@ pub record Here (m : Areas) (a p w : ℕ) : Type 0 where
   pub master : portAt m p .master ≡ w
   pub standing : standing m a ≡ some (standingOf m p)
 
+-- all this is known where a port stands open
 pub at-here : {m : Areas} {a p w : ℕ} → At m a p w → Here m a p w
 unfolding standingOf
 at-here {m} {a} {p} {w} h =
@@ -175,6 +178,7 @@ module _ {m : Areas} {a p w : ℕ} (s : Shape m) (h : Here m a p w) where
 
 -- ---- every effect
 
+-- Every valid effect keeps the shape of the areas.
 pub shape-apply : (e : Effect) (m : Areas) → Shape m → Valid m e → Shape (apply e m)
 unfolding apply
 shape-apply e m s nothing = s
@@ -184,6 +188,7 @@ shape-apply e m s (opening {a} {p} {code} {sink} {i} ha pos hp hc hi free unused
     shape-change (open-change s a p code sink i ha pos hp hc hi free unused) s
 shape-apply e m s (closing at) = shape-change (close-change s (at-here at)) s
 
+-- Every valid effect does to what stands at an address what `standingAfter` says.
 pub standing-apply : (e : Effect) (m : Areas) (b : ℕ) → Shape m → Valid m e → standing (apply e m) b ≡ standingAfter e b (standing m b)
 unfolding apply
 standing-apply e m b s nothing = refl

@@ -22,19 +22,23 @@ pub record Stands (m : Areas) (a : ℕ) : Type 0 where
   pub positive : 0 < entry m a
   pub leads : Leads m a
 
-pub seek-none : (m : Areas) (a : ℕ) → entry m a ≡ 0 → seek m a ≡ Nothing
+-- an address with the entry 0 has no port
+seek-none : (m : Areas) (a : ℕ) → entry m a ≡ 0 → seek m a ≡ Nothing
 unfolding seek
 seek-none m a e = rw (eq-eqb (entry m a) 0 e)
 
-pub seek-port : (m : Areas) (a : ℕ) → Stands m a → seek m a ≡ Port (entry m a)
+-- an address whose entry leads to a port has this port
+seek-port : (m : Areas) (a : ℕ) → Stands m a → seek m a ≡ Port (entry m a)
 unfolding seek
 seek-port m a s =
     rw (ne-eqb (entry m a) 0 (omega arith), le-leb (entry m a) 255 (s .leads .small), s .leads .formed)
 
+-- nothing stands at an address with the entry 0
 pub standing-none : (m : Areas) (a : ℕ) → entry m a ≡ 0 → standing m a ≡ none
 unfolding standing
 standing-none m a e = rw (seek-none m a e)
 
+-- where the entry leads to a port, this port stands
 pub standing-port : (m : Areas) (a : ℕ) → Stands m a → standing m a ≡ some (standingOf m (entry m a))
 unfolding standing
 standing-port m a s = rw (seek-port m a s)
@@ -45,11 +49,7 @@ look m a s =
     ⊎-elim inl (λ l. dite (decLt 0 (entry m a)) (λ h. inr (record { positive = h; leads = l })) (λ h. inl (omega arith)))
     (s .entries a)
 
-pub not-damaged : (m : Areas) (a : ℕ) → Shape m → seek m a ≡ Damaged → ⊥
-not-damaged m a s e =
-    let z : _≡_ {A = ℕ} 0 1 = ⊎-elim (λ h. cc (seek-none m a h)) (λ h. cc (seek-port m a h)) (look m a s) in
-    omega arith
-
+-- in a shape, an address at which nothing stands has the entry 0
 pub none-entry : (m : Areas) (a : ℕ) → Shape m → standing m a ≡ none → entry m a ≡ 0
 none-entry m a s e = ⊎-elim (λ h. h) (λ h. cc (standing-port m a h)) (look m a s)
 
@@ -81,6 +81,7 @@ stands-seen m a s =
       whole = refl;
     }
 
+-- all this is known of a port that stands at an address, whatever the areas hold
 pub standing-at : (m : Areas) (a : ℕ) (v : Standing) → standing m a ≡ some v → Seen m a v
 unfolding standing seek
 standing-at m a v = go (eqb (entry m a) 0) (leb (entry m a) 255 && wellFormed a (portAt m (entry m a))) refl refl

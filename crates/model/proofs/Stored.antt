@@ -10,6 +10,7 @@ use native.Mathlib.Omega.{arith}
 use lib.ListN.{length, getD, set, take, drop}
 use lib.Seq.{sets, sets-eq, getD-set-other, getD-take, getD-drop, take-at, drop-at, length-take-le}
 
+-- words stored inside a list are read back from where they were stored
 pub stored-part : (l : List ℕ) (i : ℕ) (vs : List ℕ) → i + length vs ≤ length l → take (length vs) (drop i (sets l i vs)) ≡ vs
 stored-part l i vs h =
     let there : length (take i l) ≡ i = length-take-le i l (omega arith) in
@@ -20,6 +21,7 @@ stored-part l i vs h =
     )
     (take-at vs (drop (i + length vs) l) (length vs) refl)
 
+-- the same of one word of them
 pub stored-at : (l : List ℕ) (i : ℕ) (vs : List ℕ) (k : ℕ) → i + length vs ≤ length l → k < length vs
     → getD (sets l i vs) (i + k) 0 ≡ getD vs k 0
 stored-at l i vs k h b =

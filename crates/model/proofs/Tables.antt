@@ -25,6 +25,7 @@ use Rattle.model.specs.Event.{sinkFor, pollsUs, answerTo, exchangeFor, t
 use Rattle.model.specs.Event.{isDone, raisedByReply, taken, ruled, World, brings, brought, heardBy, event, hearController}
 use Rattle.model.specs.Event.{hearEffect, hearAnswer}
 
+-- the words that we reply, if we do: a sound master frame alone is answered
 abbrev pub answerOf : Device → Areas → Heard → Option (List ℕ)
 answerOf d m Nothing = none
 answerOf d m Unsound = none
@@ -48,6 +49,7 @@ timesAfter t (Master w) = timesRestarted t
 timesAfter t (Reply w j) = t
 timesAfter t Stray = t
 
+-- FC counts every judged frame, EC the unsound ones
 abbrev pub countsAfter : Counts → Heard → Counts
 countsAfter n Nothing = n
 countsAfter n Unsound = judgedOne true n
@@ -64,7 +66,7 @@ raised0 m x t (Master w) = when (waitsFor x w) DMF
 raised0 m x t (Reply w j) = SFC ∷ raisedByReply m w j
 raised0 m x t Stray = SFC ∷ when (isDone x && ltb (t .since) (t .adopted)) DSF
 
--- FEV when FC returns to 0
+-- a frame was judged, so FC counts it
 abbrev pub isCounted : Heard → Bool
 isCounted Nothing = false
 isCounted Unsound = true
@@ -72,6 +74,7 @@ isCounted (Master w) = true
 isCounted (Reply w j) = true
 isCounted Stray = false
 
+-- FEV when FC returns to 0
 abbrev pub raised1 : Counts → Heard → List ℕ
 raised1 n h = when (isCounted h && eqb (countsAfter n h .fc) 0) FEV
 
@@ -83,6 +86,7 @@ disturbs (Master w) = false
 disturbs (Reply w j) = not (isSound j) && not (exempt (codeOf w))
 disturbs Stray = false
 
+-- the event is a status poll to our address
 abbrev pub polls : Device → Heard → Bool
 polls d Nothing = false
 polls d Unsound = false
@@ -94,6 +98,7 @@ polls d Stray = false
 abbrev pub linesAfter : Device → Lines → Heard → Hearing → Hearing → Lines
 linesAfter d l h t o = ruled (disturbs h) (polls d h) l t o
 
+-- a slave frame while waiting is taken by the sink with the waiting word; nothing else touches the areas
 abbrev pub effectOf : Areas → Heard → Hearing → Effect
 effectOf m Nothing h = untouched
 effectOf m Unsound h = untouched
@@ -101,6 +106,7 @@ effectOf m (Master w) h = untouched
 effectOf m (Reply w j) h = taken (sinkFor m w) j h
 effectOf m Stray h = untouched
 
+-- the controller of all these parts; t is what the trusted line heard, o what the observed one did
 abbrev pub controllerAfter : Controller → Areas → Heard → Hearing → Hearing → Controller
 controllerAfter c m h t o =
     record {
@@ -147,14 +153,17 @@ module _ (s : World) (a b : Hearing) where
   abbrev other : Hearing
   other = observed (C .lines) a b
 
+  -- the controller after an event is that of the tables
   pub hear-controller : hearController s a b ≡ controllerAfter C (s .areas) (heardBy C a b) told other
   unfolding hearController event
   hear-controller = controller-table C (s .areas) told other (heardBy C a b)
 
+  -- what an event does to the areas is what the table says
   pub hear-effect : hearEffect s a b ≡ effectOf (s .areas) (heardBy C a b) told
   unfolding hearEffect event
   hear-effect = effect-table C (s .areas) told (heardBy C a b)
 
+  -- what is replied to an event is what the table says
   pub hear-answer : hearAnswer s a b ≡ answerOf (C .device) (s .areas) (heardBy C a b)
   unfolding hearAnswer event
   hear-answer = answer-table C (s .areas) told (heardBy C a b)

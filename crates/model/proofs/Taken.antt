@@ -1,7 +1,7 @@
 -- Which bus events fill a port: exactly those in which a sound slave frame answers the master word of an open sink. Assumes nothing.
 use Prim.Native.Nat.{ℕ}
 use mathlib.Core.Path.{_≡_, refl, sym, _∙_, ap}
-use mathlib.Core.Bool.{Bool, true, false, cond, _&&_, false≢true}
+use mathlib.Core.Bool.{Bool, true, false, cond, _&&_, false≢true, and-eq-true-iff}
 use mathlib.Core.List.{List, _∷_}
 use mathlib.Core.Option.{Option, none, some}
 use native.Mathlib.Decide.{ℕ-discrete}
@@ -29,11 +29,11 @@ use Rattle.model.proofs.Shape.{Shape, Valid, nothing, refill, standingA
 use Rattle.model.proofs.Tables.{raised0, effectOf}
 use Rattle.model.proofs.Standings.{standing-at, distinct}
 use Rattle.model.proofs.ShapeKept.{standing-apply}
-use Rattle.model.proofs.Accepted.{both-hold, nowhere, Sink, sink-open, valid-taken}
+use Rattle.model.proofs.Accepted.{nowhere, Sink, sink-open, valid-taken}
 use Rattle.model.proofs.Waits.{waitNow, Live, waits-now}
 
 -- a frame of this kind is a sound answer to w, where o is waited for
-abbrev pub soundAnswer : Kind → Option ℕ → Hearing → ℕ → Bool
+abbrev soundAnswer : Kind → Option ℕ → Hearing → ℕ → Bool
 soundAnswer k o h w = isSlave k && isWord o w && isSound (judgedSlave (codeOf w) h)
 
 -- what stands at an address, if the sinks whose master word passes the test take these words
@@ -168,6 +168,7 @@ valid-heard m h l SlaveFrame (Waiting w) = valid-taken m w h (judgedSlave (codeO
 -- ---- the same of the effect itself: it fills the sink whose master word is answered, or no sink's is and status bits alone change
 
 module _ (m : Areas) (h : Hearing) where
+  -- a slave frame, while w is waited for, fills the sink with w if it is sound; else status bits alone change
   pub waiting-took : (w : ℕ) → Took (soundAnswer SlaveFrame (some w) h) m h (taken (sinkFor m w) (judgedSlave (codeOf w) h) h)
   unfolding passes
   waiting-took w = go (sinkFor m w) refl (judgedSlave (codeOf w) h) refl
@@ -181,6 +182,7 @@ module _ (m : Areas) (h : Hearing) where
       go (some u) eo Sound ej = let k = sink-open m w u eo in takes (addressOf w) u (k .there) (k .sink) (rw (k .word, eq-eqb w w refl, ej))
       go (some u) eo (Bad crc) ej = spares marks (λ a v e k. unsound-passes m h w ej (v .word))
 
+  -- whatever is heard fills the sink whose waiting word it soundly answers; else status bits alone change
   pub took-heard : (k : Kind) (x : Exchange) (t : Times) → Live x t
       → Took (soundAnswer k (waitNow x t 0) h) m h (effectOf m (asHeard k x h) h)
   took-heard Silence x t l = spares still (λ a v e s. refl)
@@ -203,7 +205,7 @@ taken-raises m h Noise x t l a v e s f = absurd (false≢true f)
 taken-raises m h MasterFrame x t l a v e s f = absurd (false≢true f)
 taken-raises m h SlaveFrame Idle t l a v e s f = absurd (false≢true f)
 taken-raises m h SlaveFrame Done t l a v e s f = absurd (false≢true f)
-taken-raises m h SlaveFrame (Waiting w) t l a v e s f = go (both-hold _ _ (rw (waits-now w t l) at f))
+taken-raises m h SlaveFrame (Waiting w) t l a v e s f = go (and-eq-true-iff _ _ .0 (rw (waits-now w t l) at f))
   where
     sound : (j : Judgement) → isSound j ≡ true → j ≡ Sound
     sound Sound q = refl

@@ -96,6 +96,7 @@ module _ (d : Device) (m : Areas) (t : Times) (h : Hearing) where
   live-slave (Waiting w) l = tt
   live-slave Done l = tt
 
+  -- after an event too the reply time of what is waited for has not passed, if some reply time is chosen
   pub live-heard : (k : Kind) (x : Exchange) → 0 < t .chosen → Live x t
       → Live (exchangeAfter d m x (asHeard k x h)) (timesAfter t (asHeard k x h))
   live-heard Silence x p l = l
@@ -121,6 +122,7 @@ waits-later (Waiting w) t l a q = go (leb (t .adopted) (sinceLater t)) refl
     go true e = let h : t .adopted ≤ sinceLater t = leb-true _ _ e in rw (le-ltb (t .since + (1 + q)) (t .adopted) (omega (arith, counts)))
     go false e = rw counts (rw add-assoc)
 
+-- after a quiet bit time too the reply time of what is waited for has not passed
 pub live-later : (x : Exchange) (t : Times) → Live x t → Live (exchangeLater x (expired x t)) (timesLater t)
 live-later Idle t l = tt
 live-later Done t l = tt

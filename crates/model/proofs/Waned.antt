@@ -49,11 +49,12 @@ wait-word Idle t l = refl
 wait-word (Waiting w) t l = waits-now w t l
 wait-word Done t l = refl
 
-pub nothing-there : {p : ℕ} → none ≡ some p → ⊥
+-- where there is no port there is no port p
+nothing-there : {p : ℕ} → none ≡ some p → ⊥
 nothing-there e = let z : _≡_ {A = ℕ} 0 1 = cc in omega arith
 
 -- a change of status bits leaves every other port's words
-pub gentle-same : (e : Effect) (m : Areas) (p : ℕ) → Gentle e → (portAffected e ≡ some p → ⊥) → portAt (apply e m) p ≡ portAt m p
+gentle-same : (e : Effect) (m : Areas) (p : ℕ) → Gentle e → (portAffected e ≡ some p → ⊥) → portAt (apply e m) p ≡ portAt m p
 unfolding apply
 gentle-same untouched m p still n = refl
 gentle-same (mark q x) m p marks n = words-other (m .ports) q p (markedWords (portAt m q) x) (λ i. n (ap some (sym i)))

@@ -1,4 +1,4 @@
--- Document 01, "Memory lent to the calls" and "Host calls on ports": what the areas say of a port, and the four things that a call may
+-- Document 01, "Memory lent to the calls" and "Host calls on ports": what the areas say of a port, and the five things that a call may
 -- do to them. Assumes nothing.
 use Prim.Native.Nat.{ℕ, _+_, _*_, _/_, _%_}
 use mathlib.Core.Bool.{Bool, true, false, cond, not, _&&_, _||_}

@@ -1,7 +1,7 @@
 -- A list of numbers, byte by byte, in the terms of the code. Assumes nothing.
 use Prim.Native.Nat.{ℕ, zero, suc, _+_, _<_, _≤_}
 use mathlib.Core.Path.{_≡_, refl, sym, _∙_, ap}
-use mathlib.Core.Bool.{Bool, true, false, cond, _&&_, false≢true}
+use mathlib.Core.Bool.{Bool, true, false, cond, _&&_, and-eq-true-iff}
 use mathlib.Core.List.{List, [], _∷_}
 use native.Mathlib.Nat.{zero-add, add-zero, add-suc, suc-add, suc-ne-zero, suc-inj}
 use native.Mathlib.Numerals.{add-one}
@@ -65,7 +65,7 @@ reading-none into k m b = rw (add-zero k)
 -- ---- one number alone
 
 -- the largest of one number is that number
-pub largest-alone : (vs : List ℕ) → length vs ≡ 1 → largest 0 vs ≡ getD vs 0 0
+largest-alone : (vs : List ℕ) → length vs ≡ 1 → largest 0 vs ≡ getD vs 0 0
 unfolding largest
 largest-alone [] e = absurd (suc-ne-zero 0 (sym e))
 largest-alone (v ∷ []) e = go v
@@ -85,12 +85,8 @@ module _ (into store : List ℕ) (l : Listed) (n : Numbers) (e : reading store l
   pub alone : (l .good && eqb (l .count) 1) ≡ true → Value (l .largest) ≡ soleNumber n
   alone h =
       let k : (n .good && eqb (length (n .values)) 1) ≡ true = ap (λ (x : Listed). x .good && eqb (x .count) 1) (sym told) ∙ h in
-      let one : length (n .values) ≡ 1 = eqb-true (length (n .values)) 1 (second (n .good) (eqb (length (n .values)) 1) k) in
+      let one : length (n .values) ≡ 1 = eqb-true (length (n .values)) 1 (and-eq-true-iff (n .good) (eqb (length (n .values)) 1) .0 k .1) in
       rw (k, ← largest-alone (n .values) one) (ap (λ (x : Listed). Value (x .largest)) told)
-    where
-      second : (a b : Bool) → (a && b) ≡ true → b ≡ true
-      second true b r = r
-      second false b r = absurd (false≢true r)
 
   -- no number or several: the text is not a number
   pub not-alone : (l .good && eqb (l .count) 1) ≡ false → Malformed ≡ soleNumber n

@@ -19,10 +19,10 @@ use Rattle.port_line.specs.declared.Setup.{Setup}
 use Rattle.port_line.specs.Meaning.{setup, State, whole, Step, misplaced, describes, answered, hosted, numberRead, given, meaning}
 
 -- the line is the one of its key, where the code found the key
-pub line-as : (t k v : List ℕ) (key known : Key) → key ≡ keyOf k → k ≡ textBefore equals t → v ≡ textAfter equals t → key ≡ known
+pub line-as : (t : List ℕ) {k v : List ℕ} {key known : Key} → key ≡ keyOf k → k ≡ textBefore equals t → v ≡ textAfter equals t → key ≡ known
     → lineOf t ≡ lineAs known v
 unfolding lineOf
-line-as t k v key known e b a h = rw (← b, ← a, ← e, h)
+line-as t e b a h = rw (← b, ← a, ← e, h)
 
 -- a line that says a number is well formed exactly if the number is
 pub numbered-given : (f : ℕ → Line) (n : Numeral) → numbered f (numberRead n) ≡ given (n .good) (f (n .value))

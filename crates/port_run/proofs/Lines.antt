@@ -24,7 +24,7 @@ use Rattle.port_run.specs.Printed.{onFirst, textLines, printedFrom}
 -- ---- the lines
 
 -- the first line goes up to the first newline, and the others come after it
-pub lines-next : (c : ℕ) (cs : List ℕ) → textLines (c ∷ cs) ≡ textBefore newline (c ∷ cs) ∷ textLines (textAfter newline (c ∷ cs))
+lines-next : (c : ℕ) (cs : List ℕ) → textLines (c ∷ cs) ≡ textBefore newline (c ∷ cs) ∷ textLines (textAfter newline (c ∷ cs))
 unfolding textLines textBefore textAfter
 lines-next c [] = go (eqb c newline)
   where
@@ -40,7 +40,7 @@ lines-next c (d ∷ ds) = go (eqb c newline) (lines-next d ds)
     go false h = ap (onFirst c) h
 
 -- so the code cuts them, where any text is left
-pub lines-some : (t : List ℕ) → 0 < length t → textLines t ≡ textBefore newline t ∷ textLines (textAfter newline t)
+lines-some : (t : List ℕ) → 0 < length t → textLines t ≡ textBefore newline t ∷ textLines (textAfter newline t)
 lines-some [] h = absurd (let z : 0 < 0 = h in omega arith)
 lines-some (c ∷ cs) h = lines-next c cs
 

@@ -117,7 +117,7 @@ cut-suc k n = rw (leb·suc-suc (suc k) n) (go (ltb k n))
     go false = refl
 
 -- as many words as there is room for are the first of them
-pub stored : (l vs : List ℕ) → take (cut (length l) (length vs)) (sets l 0 vs) ≡ take (length l) vs
+stored : (l vs : List ℕ) → take (cut (length l) (length vs)) (sets l 0 vs) ≡ take (length l) vs
 stored [] vs = rw (sets-nil 0 vs) (take-nil (cut 0 (length vs)))
 stored (x ∷ l) [] = rw (le-ltb (suc (length l)) 0 (omega arith))
 stored (x ∷ l) (v ∷ vs) = rw (cut-suc (length l) (length vs), sets-cons v l 0 vs) (ap (λ (r : List ℕ). v ∷ r) (stored l vs))

@@ -7,7 +7,7 @@ use lib.Pow.{pow-pos, shr-shr, high}
 use Rattle.sequence.specs.Check.{push, pushes}
 
 -- only the k low digits are pushed
-pub pushes-low : (k r a b : ℕ) → pushes k r (a * 2 ^ k + b) ≡ pushes k r b
+pushes-low : (k r a b : ℕ) → pushes k r (a * 2 ^ k + b) ≡ pushes k r b
 unfolding pushes
 pushes-low zero r a b = refl
 pushes-low (suc k) r a b =
@@ -19,6 +19,7 @@ pushes-low (suc k) r a b =
     ∙ ap (λ (n : ℕ). pushes k (push r n) (a * 2 * 2 ^ k + b)) (ap (λ (n : ℕ). n % 2) q ∙ d)
     ∙ pushes-low k (push r (b / 2 ^ k % 2)) (a * 2) b
 
+-- the j bits of a and then the k bits of b, pushed at once or one part after the other
 pub pushes-cat : (j k r a b : ℕ) → b < 2 ^ k → pushes (j + k) r (a * 2 ^ k + b) ≡ pushes k (pushes j r a) b
 unfolding pushes
 pushes-cat zero k r a b h = ap (λ (n : ℕ). pushes n r (a * 2 ^ k + b)) (zero-add k) ∙ pushes-low k r a b

@@ -64,5 +64,6 @@ words (w ∷ ws) p r f h =
     words ws (p * 2 ^ 16 + w) (pushes 16 r w) (f .1)
     (subst (λ (n : ℕ). Remainder ((p * 2 ^ 16 + n) * 128) (pushes 16 r w)) (mod-eq-of-lt (f .0)) (more 16 p r w h))
 
+-- The remainder of the words is the one of their bits times x^7 modulo G.
 pub is-remainder : (ws : List ℕ) → Words ws → Remainder (joined 0 ws * 2 ^ 7) (rest 0 ws)
 is-remainder ws f = words ws 0 0 f (record { small = lit< tt; divides = none })

@@ -13,6 +13,7 @@ xor-high v h k =
     let e : bitXor v G / 128 ≡ 0 = xor-shr v G 7 ∙ ap (λ (x : ℕ). bitXor x 1) one in
     omega arith
 
+-- before it is reduced, a step of the division has at most eight digits
 pub wide : (r b : ℕ) → r < 128 → b < 2 → bitXor (r * 2) (b * 128) < 256
 wide r b h k = xor-lt 8 (r * 2) (b * 128) (omega arith) (omega arith)
 
@@ -23,9 +24,11 @@ shifted r b h k =
     let q : b * 128 % 256 ≡ b * 128 = omega arith in
     ap₂ bitXor p q
 
+-- below x^7 nothing is reduced
 pub reduce-low : (v : ℕ) → v < 128 → v ≡ reduce v
 reduce-low v h = simp (lt-ltb _ _ h)
 
+-- from x^7 on G is added
 pub reduce-high : (v : ℕ) → 128 ≤ v → bitXor v G ≡ reduce v
 reduce-high v h = simp (le-ltb _ _ h)
 
@@ -33,6 +36,7 @@ reduce-high v h = simp (le-ltb _ _ h)
 pub last-bit : (n : ℕ) → bitAnd n 1 ≡ n % 2
 last-bit n = and-mask n 1
 
+-- k bits are pushed by the highest of them and then the others
 pub pushes-one : (k r w : ℕ) → 0 < k → pushes (k - 1) (push r (w / 2 ^ (k - 1) % 2)) w ≡ pushes k r w
 unfolding pushes
 pushes-one zero r w h = omega arith

@@ -62,6 +62,7 @@ seen : (n : ℕ) → n < 128 → pushes 8 0 n ≡ 0 → n ≡ 0
 unfolding sees
 seen n h z = eqb→eq n 0 (subst (λ (b : Bool). T (not b || eqb n 0)) (eq-eqb (pushes 8 0 n) 0 z) (below-at sees 128 all-see n h))
 
+-- Two remainders of one number modulo G are equal.
 pub unique : (p r s : ℕ) → Remainder p r → Remainder p s → r ≡ s
 unique p r s f g =
     let k = p + 8 in

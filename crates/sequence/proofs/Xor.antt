@@ -27,12 +27,15 @@ differ-assoc (suc zero) (suc zero) (suc (suc z)) h k l = omega arith
 differ-assoc (suc zero) (suc (suc y)) z h k l = omega arith
 differ-assoc (suc (suc x)) y z h k l = omega arith
 
-pub xor-odd : (a b : ℕ) → bitXor a b % 2 ≡ differ (a % 2) (b % 2)
+-- the last digit of a sum says whether the last digits differ
+xor-odd : (a b : ℕ) → bitXor a b % 2 ≡ differ (a % 2) (b % 2)
 xor-odd a b = ap (λ (n : ℕ). n % 2) (xor-step a b) ∙ digits-mod (bitXor (a / 2) (b / 2)) (differ-lt (a % 2) (b % 2) (bit a) (bit b))
 
-pub xor-half : (a b : ℕ) → bitXor a b / 2 ≡ bitXor (a / 2) (b / 2)
+-- a sum without its last digit is the sum of both without theirs
+xor-half : (a b : ℕ) → bitXor a b / 2 ≡ bitXor (a / 2) (b / 2)
 xor-half a b = xor-shr a b 1
 
+-- a sum of three does not depend on which two are added first
 pub xor-assoc : (a b c : ℕ) → bitXor (bitXor a b) c ≡ bitXor a (bitXor b c)
 xor-assoc a =
     bin-ind (λ (n : ℕ). (b c : ℕ) → bitXor (bitXor n b) c ≡ bitXor n (bitXor b c)) (λ b c. refl)
@@ -44,9 +47,11 @@ xor-assoc a =
     ∙ ap (differ (n % 2)) (sym (xor-odd b c)))
     ∙ sym (xor-step n (bitXor b c))) a
 
-pub xor-left-comm : (a b c : ℕ) → bitXor a (bitXor b c) ≡ bitXor b (bitXor a c)
+-- the first two of three change places
+xor-left-comm : (a b c : ℕ) → bitXor a (bitXor b c) ≡ bitXor b (bitXor a c)
 xor-left-comm a b c = sym (xor-assoc a b c) ∙ ap (λ (x : ℕ). bitXor x c) (xor-comm a b) ∙ xor-assoc b a c
 
+-- the middle two of four change places
 pub xor4 : (a b c d : ℕ) → bitXor (bitXor a b) (bitXor c d) ≡ bitXor (bitXor a c) (bitXor b d)
 xor4 a b c d = xor-assoc a b (bitXor c d) ∙ ap (bitXor a) (xor-left-comm b c d) ∙ sym (xor-assoc a c (bitXor b d))
 
@@ -54,6 +59,7 @@ xor4 a b c d = xor-assoc a b (bitXor c d) ∙ ap (bitXor a) (xor-left-comm b c d
 pub xor-twice : (a b : ℕ) → bitXor (bitXor a b) b ≡ a
 xor-twice a b = xor-assoc a b b ∙ ap (bitXor a) (xor-self b) ∙ xor-zero-r a
 
+-- a shift goes through a sum
 pub xor-shl : (a b k : ℕ) → bitXor a b * 2 ^ k ≡ bitXor (a * 2 ^ k) (b * 2 ^ k)
 xor-shl a b k =
     sym (ap₂ bitXor (sym (add-zero (a * 2 ^ k))) (sym (add-zero (b * 2 ^ k))) ∙ xor-block k a b 0 0 (pow-pos k) (pow-pos k)

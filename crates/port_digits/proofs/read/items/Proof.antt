@@ -26,10 +26,10 @@ loop-holds c = (search needs, refl, search needs, reading-start _ _)
 
 loop-again : tie.Need-loop-again Inv-loop μ-loop
 loop-again c =
-    let p5 = c .before .before .before .before .before in
-    let p8 = p5 .before .before .before in
-    let l = p5 .loop in
-    let t = now (p8 .args .t) in
+    let turn = c .before .before .before .before .before in
+    let entered = turn .before .before .before in
+    let l = turn .loop in
+    let t = now (entered .args .t) in
     let e = item-digit t (l .i) (omega arith) (l .begun) (l .v) (sym (c .before .before .is-digit .ensures) ∙ c .before .if1 .taken) in (
       search needs,
       search needs,
@@ -40,34 +40,33 @@ loop-again c =
 
 loop-again-2 : tie.Need-loop-again-2 Inv-loop μ-loop
 loop-again-2 c =
-    let p4 = c .before .before .before .before in
-    let p6 = p4 .before .before in
-    let p15 = p6 .before .before .before .before .before .before .before .before .before in
-    let tested = p6 in
+    let stored = c .before .before .before .before in
+    let tested = stored .before .before in
+    let entered = tested .before .before .before .before .before .before .before .before .before in
     let l = tested .before .before .before .before .before .before .loop in
-    let t = now (p15 .args .t) in
+    let t = now (entered .args .t) in
     let digit = sym (tested .before .before .before .is-digit .ensures) ∙ tested .before .before .if1 .left in
     let ends = sym (tested .before .both .ensures) ∙ tested .if2 .taken in
     let e = item-ends t (l .i) (omega arith) (l .begun) (l .v) digit ends in (
       search needs,
       search needs,
       search needs,
-      rw (c .larger .ensures, c .before .before .before .store .ensures, p4 .word .ensures)
+      rw (c .larger .ensures, c .before .before .before .store .ensures, stored .word .ensures)
           (reading-with (l .into) (l .count) (l .largest) (l .v) (itemsFrom false 0 (drop (l .i + 1) t)) ∙ ap
           (readingFrom (l .into) (l .count) (l .largest)) (sym e) ∙ l .inv .3),
     )
 
 same-length : tie.Need-same-length Inv-loop μ-loop
 same-length c =
-    let p6 = c .before .before .before .before .before .before in
-    p6 .loop .inv .1
+    let turn = c .before .before .before .before .before .before in
+    turn .loop .inv .1
 
 returns : tie.Need-returns Inv-loop μ-loop
 returns c =
-    let p6 = c .before .before .before .before .before .before in
-    let p9 = p6 .before .before .before in
-    let l = p6 .loop in
-    let t = now (p9 .args .t) in
+    let turn = c .before .before .before .before .before .before in
+    let entered = turn .before .before .before in
+    let l = turn .loop in
+    let t = now (entered .args .t) in
     let digit = sym (c .before .before .before .is-digit .ensures) ∙ c .before .before .if1 .left in
     let ends = sym (c .before .both .ensures) ∙ c .if2 .left in
     let e = item-fault t (l .i) (omega arith) (l .begun) (l .v) digit ends in
@@ -75,17 +74,17 @@ returns c =
 
 returns-2 : tie.Need-returns-2 Inv-loop μ-loop
 returns-2 c =
-    let p4 = c .before .before .before .before in
-    let p6 = p4 .before .before in
-    let p7 = p6 .before in
-    let p8 = p7 .before in
-    let p11 = p8 .before .before .before in
-    let l = p8 .loop in
-    let t = now (p11 .args .t) in
-    let e = item-last t (l .i) (p7 .loop-test .left) true (l .v) in
-    rw (c .larger2 .ensures, c .before .before .before .store2 .ensures, p4 .word2 .ensures)
+    let stored = c .before .before .before .before in
+    let begun = stored .before .before in
+    let left = begun .before in
+    let turn = left .before in
+    let entered = turn .before .before .before in
+    let l = turn .loop in
+    let t = now (entered .args .t) in
+    let e = item-last t (l .i) (left .loop-test .left) true (l .v) in
+    rw (c .larger2 .ensures, c .before .before .before .store2 .ensures, stored .word2 .ensures)
     (sym (reading-none _ _ _ _) ∙ reading-with (l .into) (l .count) (l .largest) (l .v) (numbers true []) ∙ ap
-    (readingFrom (l .into) (l .count) (l .largest)) (sym e) ∙ rw (p6 .if3 .taken) at (l .inv .3))
+    (readingFrom (l .into) (l .count) (l .largest)) (sym e) ∙ rw (begun .if3 .taken) at (l .inv .3))
 
 same-length-3 : tie.Need-same-length-3 Inv-loop μ-loop
 same-length-3 c = c .before .before .loop .inv .1

@@ -12,9 +12,9 @@ returns c = rw (numbers-empty (now (c .before .before .before .args .t)) (c .if1
 
 returns-2 : tie.Need-returns-2
 returns-2 c =
-    let p4 = c .before .before .before .before in
-    let p7 = p4 .before .before .before in
-    rw (numbers-some (now (p7 .args .t)) (p4 .if1 .left)) (c .before .before .items .ensures)
+    let tested = c .before .before .before .before in
+    let entered = tested .before .before .before in
+    rw (numbers-some (now (entered .args .t)) (tested .if1 .left)) (c .before .before .items .ensures)
 
 pub numbers-spec : {M : Type 1} → statement M
 numbers-spec = tie.close (tie.spec returns (λ c κs. search needs) (λ c. search needs) returns-2)

@@ -26,17 +26,17 @@ loop-holds c = (search needs, refl, refl)
 
 loop-again : tie.Need-loop-again Inv-loop μ-loop
 loop-again c =
-    let p7 = c .before .before .before .before .before .before .before in
-    let p10 = p7 .before .before .before in
-    let p13 = p10 .before .before .before in
-    let l = p10 .loop in
-    let a = p13 .args in
+    let comma = c .before .before .before .before .before .before .before in
+    let turn = comma .before .before .before in
+    let entered = turn .before .before .before in
+    let l = turn .loop in
+    let a = entered .args in
     let h = commas-next (paper (l .out) (l .p)) (now (a .vs)) (l .i) (omega arith) in (
       search needs,
       search needs,
       ap (λ (q : Paper). onto q (commasFrom (ltb 0 (l .i + 1)) (drop (l .i + 1) (now (a .vs)))))
           (c .before .before .put-number .ensures ∙ ap (λ (q : Paper). onto q (decimal (getD (now (a .vs)) (l .i) 0)))
-          (p7 .put-comma .ensures)) ∙ sym h ∙ l .inv .2,
+          (comma .put-comma .ensures)) ∙ sym h ∙ l .inv .2,
     )
 
 same-length : tie.Need-same-length Inv-loop μ-loop

@@ -14,8 +14,7 @@ unfolding lineAs
 returns c =
     let found = c .before in
     let rest = found .before .before .before .before in
-    let line = line-as _ _ _ _ _ (rest .before .key-of .ensures) (rest .before .before .before2 .ensures) (rest .after .ensures)
-    (found .enum-told .given .1) in
+    let line = line-as _ (rest .before .key-of .ensures) (rest .before .before .before2 .ensures) (rest .after .ensures) (found .enum-told .given .1) in
     let n = found .before .before .numeral in
     let read = n .ensures ∙ found .before .before .before .number .ensures in
     rw (line, ← read, numbered-given (λ (v : ℕ). addr (cut 65535 v)) (n .result)) (c .set-addr .ensures _ _)
@@ -25,8 +24,7 @@ unfolding lineAs
 returns-2 c =
     let found = c .before in
     let rest = found .before .before .before .before in
-    let line = line-as _ _ _ _ _ (rest .before .key-of .ensures) (rest .before .before .before2 .ensures) (rest .after .ensures)
-    (found .enum-told2 .given .1) in
+    let line = line-as _ (rest .before .key-of .ensures) (rest .before .before .before2 .ensures) (rest .after .ensures) (found .enum-told2 .given .1) in
     let n = found .before .before .numeral in
     let read = n .ensures ∙ found .before .before .before .number .ensures in
     rw (line, ← read, numbered-given (λ (v : ℕ). fcode (cut 65535 v)) (n .result)) (c .set-code .ensures _ _)
@@ -36,8 +34,7 @@ unfolding lineAs
 returns-3 c =
     let found = c .before in
     let rest = found .before .before .before .before in
-    let line = line-as _ _ _ _ _ (rest .before .key-of .ensures) (rest .before .before .before2 .ensures) (rest .after .ensures)
-    (found .enum-told3 .given .1) in
+    let line = line-as _ (rest .before .key-of .ensures) (rest .before .before .before2 .ensures) (rest .after .ensures) (found .enum-told3 .given .1) in
     rw line (c .dir-line .ensures _ _)
 
 returns-4 : tie.Need-returns-4
@@ -46,8 +43,7 @@ returns-4 c =
     let called = c .before .before .before .before in
     let found = called .before .before .before .before .before in
     let rest = found .before .before .before .before in
-    let line = line-as _ _ _ _ _ (rest .before .key-of .ensures) (rest .before .before .before2 .ensures) (rest .after .ensures)
-    (found .enum-told4 .given .1) in
+    let line = line-as _ (rest .before .key-of .ensures) (rest .before .before .before2 .ensures) (rest .after .ensures) (found .enum-told4 .given .1) in
     let n = found .before .before .numeral in
     let read = n .ensures ∙ found .before .before .before .number .ensures in
     rw (line, ← read, numbered-given (λ (v : ℕ). index (cut 65535 v)) (n .result)) (called .«open» .ensures _)
@@ -58,8 +54,7 @@ returns-5 c =
     let called = c .before .before .before .before .before .before .before .before in
     let found = called .before .before .before .before .before .before .before in
     let rest = found .before .before .before .before in
-    let line = line-as _ _ _ _ _ (rest .before .key-of .ensures) (rest .before .before .before2 .ensures) (rest .after .ensures)
-    (found .enum-told5 .given .1) in
+    let line = line-as _ (rest .before .key-of .ensures) (rest .before .before .before2 .ensures) (rest .after .ensures) (found .enum-told5 .given .1) in
     rw (line, ← called .before .master .ensures) (called .hear .ensures)
 
 returns-6 : tie.Need-returns-6
@@ -68,8 +63,7 @@ returns-6 c =
     let called = c .before .before .before .before .before .before .before .before in
     let found = called .before .before .before .before .before .before .before in
     let rest = found .before .before .before .before in
-    let line = line-as _ _ _ _ _ (rest .before .key-of .ensures) (rest .before .before .before2 .ensures) (rest .after .ensures)
-    (found .enum-told6 .given .1) in
+    let line = line-as _ (rest .before .key-of .ensures) (rest .before .before .before2 .ensures) (rest .after .ensures) (found .enum-told6 .given .1) in
     rw (line, ← called .before .slave .ensures) (called .hear2 .ensures)
 
 returns-7 : tie.Need-returns-7
@@ -78,8 +72,7 @@ returns-7 c =
     let called = c .before .before .before .before in
     let found = called .before .before .before .before .before .before in
     let rest = found .before .before .before .before in
-    let line = line-as _ _ _ _ _ (rest .before .key-of .ensures) (rest .before .before .before2 .ensures) (rest .after .ensures)
-    (found .enum-told7 .given .1) in
+    let line = line-as _ (rest .before .key-of .ensures) (rest .before .before .before2 .ensures) (rest .after .ensures) (found .enum-told7 .given .1) in
     let n = found .before .before .numeral in
     rw (line, ← (n .ensures ∙ found .before .before .before .number .ensures), numbered-given quiet (n .result)) (called .quiet .ensures)
 
@@ -89,8 +82,7 @@ returns-8 c =
     let called = c .before .before .before .before .before .before in
     let found = called .before .before .before .before .before in
     let rest = found .before .before .before .before in
-    let line = line-as _ _ _ _ _ (rest .before .key-of .ensures) (rest .before .before .before2 .ensures) (rest .after .ensures)
-    (found .enum-told8 .given .1) in
+    let line = line-as _ (rest .before .key-of .ensures) (rest .before .before .before2 .ensures) (rest .after .ensures) (found .enum-told8 .given .1) in
     rw line (called .write-line .ensures _)
 
 returns-9 : tie.Need-returns-9
@@ -98,8 +90,7 @@ unfolding lineAs meaning
 returns-9 c =
     let found = c .before in
     let rest = found .before .before .before .before in
-    let line = line-as _ _ _ _ _ (rest .before .key-of .ensures) (rest .before .before .before2 .ensures) (rest .after .ensures)
-    (found .enum-told9 .given .1) in
+    let line = line-as _ (rest .before .key-of .ensures) (rest .before .before .before2 .ensures) (rest .after .ensures) (found .enum-told9 .given .1) in
     rw line (c .misplace .ensures _ _)
 
 pub step-spec : {M : Type 1} → statement M

@@ -59,14 +59,13 @@ returns c = λ o.
 returns-2 : tie.Need-returns-2
 unfolding writeOf meaning
 returns-2 c = λ o.
-    let p4 = c .before .before .before .before in
-    let p6 = p4 .before .before in
-    let p14 = p6 .before .before .before .before .before .before .before .before in
-    let v = now (p14 .args .v) in
-    let l = p6 in
-    let e = l .numbers .ensures ∙ ap (λ (t : List ℕ). readingOf (replicate 17 0) (numbersIn t)) (l .before .before .after .ensures) in
+    let tested = c .before .before .before .before in
+    let read = tested .before .before in
+    let entered = read .before .before .before .before .before .before .before .before in
+    let v = now (entered .args .v) in
+    let e = read .numbers .ensures ∙ ap (λ (t : List ℕ). readingOf (replicate 17 0) (numbersIn t)) (read .before .before .after .ensures) in
     let flag : c .before .before .both .result ≡ (has semicolon v && below 65535 (secondList semicolon v))
-    = rw (c .before .before .both .ensures, p4 .has .ensures, c .before .before .before .is-below .ensures) (write-good v _ _ e) in
+    = rw (c .before .before .both .ensures, tested .has .ensures, c .before .before .before .is-below .ensures) (write-good v _ _ e) in
     rw (sym flag ∙ c .before .if1 .left) (c .misplace .ensures _ o)
 
 pub write-line-spec : {M : Type 1} → statement M

@@ -15,11 +15,11 @@ use Rattle.port_run.proofs.run.run.Tie as tie
 returns : tie.Need-returns
 unfolding printed start clearedAreas
 returns c =
-    let p6 = c .before .before .before .before .before .before in
-    let p14 = p6 .before .before .before .before .before .before .before .before in
-    let a = p14 .args in
+    let worked = c .before .before .before .before .before .before in
+    let entered = worked .before .before .before .before .before .before .before .before in
+    let a = entered .args in
     let h : length (now (a .out)) ≤ lastPlace = omega arith in
-    p6 .lines .ensures ∙ onto-pasted (now (a .out)) (printed (now (a .input))) h
+    worked .lines .ensures ∙ onto-pasted (now (a .out)) (printed (now (a .input))) h
 
 pub run-spec : {M : Type 1} → statement M
 run-spec =

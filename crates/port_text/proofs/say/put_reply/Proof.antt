@@ -23,11 +23,11 @@ returns-3 c = rw (c .enum-told3 .given .1)
 returns-4 : tie.Need-returns-4
 unfolding replyText
 returns-4 c =
-    let p4 = c .before .before .before .before in
-    let p7 = p4 .before .before .before in
-    let a = p7 .args in
+    let matched = c .before .before .before .before in
+    let entered = matched .before .before .before in
+    let a = entered .args in
     let said : Kind → Paper = λ k. onto (paper (now (a .out)) (a .at)) (spokenText k (a .h)) in
-    c .before .before .put-frame .ensures ∙ ap said (sym (p4 .enum-told4 .given .1))
+    c .before .before .put-frame .ensures ∙ ap said (sym (matched .enum-told4 .given .1))
 
 pub put-reply-spec : {M : Type 1} → statement M
 put-reply-spec =
