@@ -20,11 +20,11 @@ use Rattle.model.specs.Quiet.{times}
 use Rattle.model.specs.Host.{freshController, isReplyTime, settingOut, Setting, address, status, replyTime, slm, ls, clearEC, reset}
 use Rattle.model.specs.Host.{group0, group1, tell}
 use Rattle.model.specs.Calls.{Call, quiet, openPort, closePort, writePort, readPort, setting, refusal, effect, step}
-use Rattle.model.specs.Past.{Change, keeps, opens, closes, writes, changes, happening, leaves, after, isReset, settingsBy, awaited}
+use Rattle.model.specs.Past.{freshSettings, Change, keeps, opens, closes, writes, changes, happening, leaves, after, isReset, settingsBy, awaited}
 use Rattle.model.specs.Past.{Opening, opening, openingOf, answersSince, lastSettings, writesSince, lastOf, countSince, framesJudged}
 use Rattle.model.specs.Past.{framesUnsound}
 use Rattle.model.proofs.ToldPort.{standingWith, toldStanding}
-use Rattle.model.proofs.Shape.{Valid, nothing, refill, refillIf, justOpened, standingAfter}
+use Rattle.model.proofs.Shape.{Shape, Valid, nothing, refill, refillIf, justOpened, standingAfter}
 use Rattle.model.proofs.Standings.{distinct}
 use Rattle.model.proofs.ShapeKept.{shape-apply, standing-apply}
 use Rattle.model.proofs.Accepted.{valid-open, valid-close, found-write, write-source, valid-write}
@@ -220,6 +220,23 @@ set-stands : (past : List Call) (t : Setting) (m : Areas) → ((a : ℕ) → sta
 unfolding openingOf answersSince writesSince
 set-stands past t m v a = v a ∙ told-same past (setting t ∷ past) a (openingOf past a) (λ w. refl) refl
 
+-- a fresh controller, where the past tells that nothing is waited for or set or was counted
+pub fresh-told : (past : List Call) (m : Areas) → Shape m → ((a : ℕ) → standing m a ≡ toldStanding past a (openingOf past a))
+    → ((q : ℕ) → awaited past q ≡ none) → lastSettings past ≡ freshSettings → framesJudged past ≡ 0 → framesUnsound past ≡ 0
+    → Told past freshController m
+unfolding freshController
+fresh-told past m shape stands waits set judged unsound =
+    record {
+      holds = record { shape = shape; stands = stands; waits = λ q. sym (waits q); live = tt; short = lit≤ tt };
+      chosen = rw set;
+      some-time = rw set (lit< tt);
+      short-time = rw set (lit≤ tt);
+      status = rw set;
+      address = rw set;
+      fc = rw judged;
+      ec = rw unsound;
+    }
+
 -- a setting that leaves exchange and times as they are
 kept-told : (past : List Call) (t : Setting) (c e : Controller) (m : Areas)
     → e .exchange ≡ c .exchange → e .times ≡ c .times → isReset t ≡ false → settingsBy t (lastSettings past) .replyTime ≡ lastSettings past .replyTime
@@ -292,24 +309,8 @@ module _ (past : List Call) (c : Controller) (m : Areas) (h : Told past c m) whe
       }
 
   reset-told : Told (setting reset ∷ past) (tell reset c) m
-  unfolding tell freshController awaited framesJudged framesUnsound countSince lastSettings
-  reset-told =
-      record {
-        holds = record {
-          shape = h .holds .shape;
-          stands = set-stands past reset m (h .holds .stands);
-          waits = λ q. refl;
-          live = tt;
-          short = lit≤ tt;
-        };
-        chosen = refl;
-        some-time = lit< tt;
-        short-time = lit≤ tt;
-        status = refl;
-        address = refl;
-        fc = refl;
-        ec = refl;
-      }
+  unfolding tell awaited framesJudged framesUnsound countSince lastSettings
+  reset-told = fresh-told (setting reset ∷ past) m (h .holds .shape) (set-stands past reset m (h .holds .stands)) (λ q. refl) refl refl refl
 
   -- the invariant holds after a setting that is in range
   pub set-told : (t : Setting) → settingOut t ≡ false → Told (setting t ∷ past) (tell t c) m

@@ -4,28 +4,18 @@ use mathlib.Core.List.{List, [], _∷_}
 use lib.Dec.{lit<, lit≤}
 use Rattle.model.specs.Host.{freshController, status}
 use Rattle.model.specs.Calls.{Call, hear, quiet, openPort, closePort, writePort, readPort, setting, outOfRange, refusal, step}
-use Rattle.model.specs.Calls.{start}
+use Rattle.model.specs.Calls.{clearedAreas, start}
 use Rattle.model.specs.Past.{after, Typed, Accepted, awaited, openingOf, countSince, framesJudged, lastSettings, framesUnsound}
 use Rattle.model.proofs.ShapeKept.{shape-cleared, standing-cleared}
 use Rattle.model.proofs.Refused.{accepted}
 use Rattle.model.proofs.Invariant.{Told, ToldBy, hear-told}
-use Rattle.model.proofs.Hosted.{quiet-told, open-told, close-told, write-told, read-told, set-told}
+use Rattle.model.proofs.Hosted.{quiet-told, open-told, close-told, write-told, read-told, fresh-told, set-told}
 
 -- ---- any run
 
 start-told : Told [] (start .controller) (start .areas)
-unfolding start freshController awaited framesJudged framesUnsound openingOf countSince lastSettings
-start-told =
-    record {
-      holds = record { shape = shape-cleared; stands = standing-cleared; waits = λ q. refl; live = tt; short = lit≤ tt };
-      chosen = refl;
-      some-time = lit< tt;
-      short-time = lit≤ tt;
-      status = refl;
-      address = refl;
-      fc = refl;
-      ec = refl;
-    }
+unfolding start awaited framesJudged framesUnsound openingOf countSince lastSettings
+start-told = fresh-told [] clearedAreas shape-cleared standing-cleared (λ q. refl) refl refl refl
 
 step-told : (past : List Call) (c : Call) → Typed c → refusal c (after past) ≡ 0 → ToldBy past (after past)
     → ToldBy (c ∷ past) (step c (after past))

@@ -6,7 +6,7 @@ ghost use Rattle.port_digits.specs.Read.{cut};
 ghost use Rattle.port_digits.specs.Write.{paper};
 ghost use Rattle.model.specs.Layout.{Areas};
 ghost use Rattle.areas.specs.Lent.{lent};
-ghost use Rattle.port_text.specs.Line.{dirOf, writeOf, lineOf};
+ghost use Rattle.port_text.specs.Line.{dirOf, writeOf, lineAs, lineOf};
 ghost use Rattle.port_line.specs.Meaning.{stateAfter, numberRead, meaning, ended, endedBy};
 use crate::Numeral;
 use crate::Stepped;
@@ -85,7 +85,38 @@ fn write_line(
     calls::misplace(s)
 }
 
-// The line by its key.
+// The line with this key and what stands behind it.
+fn by_key(
+    index: &mut [u16],
+    ports: &mut [u16],
+    page0: &mut [u16],
+    page1: &mut [u16],
+    out: &mut [u8],
+    s: Stepped,
+    key: Key,
+    v: &[u8],
+) -> Stepped
+    ensures { λ r. ⌜
+        ended (lent (index .exit) (ports .exit) (page0 .exit) (page1 .exit)) (now (out .exit)) r ≡
+        endedBy (paper (now (out .entry)) (s .at))
+        (meaning (lineAs key (now (v .entry))) (stateAfter (lent (index .entry) (ports .entry) (page0 .entry) (page1 .entry)) s))
+        ⌝ }
+{
+    let n = numeral(read::number(v));
+    match key {
+        Key::Addr => calls::set_addr(s, n),
+        Key::Fcode => calls::set_code(s, n),
+        Key::Dir => dir_line(s, v),
+        Key::Index => calls::open(index, ports, page0, page1, s, n),
+        Key::Master => calls::hear(index, ports, page0, page1, out, s, line::master(v)),
+        Key::Slave => calls::hear(index, ports, page0, page1, out, s, line::slave(v)),
+        Key::Quiet => calls::quiet(index, ports, page0, page1, out, s, n),
+        Key::Write => write_line(index, ports, page0, page1, s, v),
+        Key::Unknown => calls::misplace(s),
+    }
+}
+
+// One line.
 pub fn step(
     index: &mut [u16],
     ports: &mut [u16],
@@ -103,16 +134,5 @@ pub fn step(
 {
     let key = line::key_of(cut::before(t, b'='));
     let v = cut::after(t, b'=');
-    let n = numeral(read::number(v));
-    match key {
-        Key::Addr => calls::set_addr(s, n),
-        Key::Fcode => calls::set_code(s, n),
-        Key::Dir => dir_line(s, v),
-        Key::Index => calls::open(index, ports, page0, page1, s, n),
-        Key::Master => calls::hear(index, ports, page0, page1, out, s, line::master(v)),
-        Key::Slave => calls::hear(index, ports, page0, page1, out, s, line::slave(v)),
-        Key::Quiet => calls::quiet(index, ports, page0, page1, out, s, n),
-        Key::Write => write_line(index, ports, page0, page1, s, v),
-        Key::Unknown => calls::misplace(s),
-    }
+    by_key(index, ports, page0, page1, out, s, key, v)
 }
