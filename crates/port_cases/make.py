@@ -12,8 +12,8 @@ import sys
 
 HERE = os.path.dirname(os.path.abspath(__file__))
 
-# Input of so many bytes or more is not taken, nor output of more.
-LIMIT = 65536
+# The longest line, in bytes without its newline; a longer one is malformed.
+LONGEST = 1024
 
 # Slave sizes in words; an F-code that is not here expects no reply.
 SIZES = {0: 1, 1: 2, 2: 4, 3: 8, 4: 16, 12: 16, 8: 1, 9: 1, 13: 1, 14: 1, 15: 1}
@@ -194,21 +194,19 @@ def commas(values):
 
 def printed(text):
     """All that is printed of an input."""
-    if len(text) >= LIMIT:
-        return "input too long\n"
     program = Program()
     lines = text.split(b"\n")
     if lines[-1] == b"":
         lines.pop()
     try:
         for line in lines:
+            refuse(len(line) > LONGEST, 7)
             program.line(line)
         refuse(program.group, 7)
         program.report()
     except Refused as e:
         program.out.append("refused=%d\n" % e.args[0])
-    out = "".join(program.out)
-    return out if len(out) <= LIMIT else "output too long\n"
+    return "".join(program.out)
 
 
 # ---- the inputs
@@ -388,13 +386,25 @@ def long_runs():
         yield "run_%d" % seed, run_of(seed, 250 + 100 * seed)
     yield "fills_many", SINK + (master(1) + slave([2]) + master(1) + slave([3])) * 300
     yield "replies_many", SOURCE + "write=2;0,1\n" + master(4098) * 300
-    yield "output_exceeded", SOURCES + "write=24;%s\n" % commas([65535] * 16) + master(4 * 4096 + 24) * 600
-    yield "room_left", padded_to(LIMIT - 1)
-    yield "room_filled", padded_to(LIMIT)
+    yield "replies_of_65536_bytes", SOURCES + "write=24;%s\n" % commas([65535] * 16) + master(4 * 4096 + 24) * 600
+    yield "input_of_65535_bytes", padded_to(65535)
+    yield "input_of_65536_bytes", padded_to(65536)
+    ports = [(4095 - 16 * p, p) for p in range(1, 256)]
+    yield "ports_255_full", ("".join(port(a, 4, "source", p) for a, p in ports)
+                             + "".join("write=%d;%s\n" % (a, commas([65535 - p] * 16)) for a, p in ports))
+
+
+def longest_lines():
+    for n in (LONGEST - 1, LONGEST, LONGEST + 1, LONGEST + 2, 4096, 20000):
+        line = "quiet=%s1" % ("0" * (n - 7))
+        yield "line_of_%d" % n, FILLED + line + "\n"
+        yield "last_line_of_%d" % n, FILLED + line
+    yield "long_line_first", "addr=%s1\nfcode=0\n" % ("0" * LONGEST)
+    yield "long_line_after_reply", SOURCE + "write=2;0,1\n" + master(4098) + "9" * 1500 + "\n" + master(4098)
 
 
 def cases():
-    for kind in (good, held, replies, refusals, malformed, long_runs):
+    for kind in (good, held, replies, refusals, malformed, long_runs, longest_lines):
         for name, text in kind():
             yield name, text.encode()
 
@@ -420,7 +430,7 @@ def main():
     ends = {}
     for o in outputs:
         last = o.splitlines()[-1] if o else "nothing"
-        end = last if last.startswith("refused") or last == "nothing" or "too long" in last else "ports"
+        end = last if last.startswith("refused") or last == "nothing" else "ports"
         ends[end] = ends.get(end, 0) + 1
     print("%d inputs: %s" % (len(all_cases), ", ".join("%s %d" % e for e in sorted(ends.items()))))
 

@@ -1,12 +1,21 @@
-//! The port program ("Numbers on either side"): it reads standard input, line by line.
+//! The port program ("Numbers on either side"): it reads standard input, line by line, and prints as replies occur.
 //! Device address 0, no status word, no transfer interrupts.
 
 use reference::areas::SINK;
 use reference::refusal::{refuse_unless, TEXT};
 use reference::{ask, fetch, hear, open, quiet, write, Answer, Areas, Controller, Hearing, Kind};
-use std::io::Read;
+use std::io::{self, BufRead, BufReader, Read, Write};
 
-const SETUP: [&str; 4] = ["addr", "fcode", "dir", "index"];
+const SETUP: [&[u8]; 4] = [b"addr", b"fcode", b"dir", b"index"];
+
+/// The longest line, in bytes without its newline; a longer one is malformed.
+const LONGEST: usize = 1024;
+
+/// As much is read at once.
+const PIECE: usize = 65_536;
+
+/// What a line prints goes here.
+type Output<'a> = &'a mut Vec<u8>;
 
 struct Program {
     controller: Controller,
@@ -15,41 +24,64 @@ struct Program {
     setup: Vec<u16>,
     /// An event or write has come: no setup line may follow.
     running: bool,
+    /// The lists of the line at hand, kept so that no line allocates.
+    words: Vec<u16>,
+    checks: Vec<u8>,
 }
 
 /// Digits only; what is too large for a u64 becomes the largest.
-fn decimal(text: &str) -> Result<u64, u16> {
-    let digits = !text.is_empty() && text.bytes().all(|byte| byte.is_ascii_digit());
-    refuse_unless(digits, TEXT)?;
-    Ok(text.parse().unwrap_or(u64::MAX))
+fn decimal(text: &[u8]) -> Result<u64, u16> {
+    refuse_unless(!text.is_empty(), TEXT)?;
+    let mut number = 0u64;
+    for byte in text {
+        refuse_unless(byte.is_ascii_digit(), TEXT)?;
+        number = number.saturating_mul(10).saturating_add((byte - b'0') as u64);
+    }
+    Ok(number)
 }
 
 /// An argument with a range of its own: what does not fit is out of range anyway.
-fn argument(text: &str) -> Result<u16, u16> {
+fn argument(text: &[u8]) -> Result<u16, u16> {
     Ok(decimal(text)?.min(65_535) as u16)
 }
 
-/// Numbers with commas between them, each at most `most`; an empty text is no number.
-fn list(text: &str, most: u64) -> Result<Vec<u64>, u16> {
-    let mut numbers = Vec::new();
-    for part in text.split(',').filter(|_| !text.is_empty()) {
-        let number = decimal(part)?;
-        refuse_unless(number <= most, TEXT)?;
-        numbers.push(number);
+/// Numbers with commas between them; one that does not fit is malformed, and an empty text is no number.
+fn list<T: TryFrom<u64>>(text: &[u8], into: &mut Vec<T>) -> Result<(), u16> {
+    into.clear();
+    if !text.is_empty() {
+        for part in text.split(|byte| *byte == b',') {
+            into.push(T::try_from(decimal(part)?).map_err(|_| TEXT)?);
+        }
     }
-    Ok(numbers)
+    Ok(())
 }
 
-fn words(text: &str) -> Result<Vec<u16>, u16> {
-    Ok(list(text, 65_535)?.iter().map(|word| *word as u16).collect())
+fn split_once(text: &[u8], at: u8) -> Result<(&[u8], &[u8]), u16> {
+    let i = text.iter().position(|byte| *byte == at).ok_or(TEXT)?;
+    Ok((&text[..i], &text[i + 1..]))
 }
 
-fn bytes(text: &str) -> Result<Vec<u8>, u16> {
-    Ok(list(text, 255)?.iter().map(|byte| *byte as u8).collect())
+fn put_number(number: u16, out: Output) {
+    let mut digits = [0u8; 5];
+    let (mut rest, mut i) = (number, 5);
+    loop {
+        i -= 1;
+        digits[i] = b'0' + (rest % 10) as u8;
+        rest /= 10;
+        if rest == 0 {
+            break;
+        }
+    }
+    out.extend_from_slice(&digits[i..]);
 }
 
-fn joined<T: ToString>(numbers: &[T]) -> String {
-    numbers.iter().map(T::to_string).collect::<Vec<_>>().join(",")
+fn put_list(numbers: impl Iterator<Item = u16>, out: Output) {
+    for (i, number) in numbers.enumerate() {
+        if i > 0 {
+            out.push(b',');
+        }
+        put_number(number, out);
+    }
 }
 
 fn accepted(refusal: u16) -> Result<(), u16> {
@@ -58,73 +90,86 @@ fn accepted(refusal: u16) -> Result<(), u16> {
 
 impl Program {
     fn new() -> Program {
-        Program { controller: Controller::fresh(), areas: Areas::zero(), setup: Vec::new(), running: false }
+        Program {
+            controller: Controller::fresh(),
+            areas: Areas::zero(),
+            setup: Vec::new(),
+            running: false,
+            words: Vec::new(),
+            checks: Vec::new(),
+        }
     }
 
-    /// One line of input; hands back what it prints, if anything.
-    fn line(&mut self, line: &str) -> Result<String, u16> {
-        let (key, value) = line.split_once('=').ok_or(TEXT)?;
+    /// One line of input, and what it prints.
+    fn line(&mut self, line: &[u8], out: Output) -> Result<(), u16> {
+        refuse_unless(line.len() <= LONGEST, TEXT)?;
+        let (key, value) = split_once(line, b'=')?;
         if SETUP.contains(&key) {
             return self.setup_line(key, value);
         }
         refuse_unless(self.setup.is_empty(), TEXT)?;
         self.running = true;
         match key {
-            "master" => {
-                let (word, check) = value.split_once(',').ok_or(TEXT)?;
-                let (word, check) = (words(word)?, bytes(check)?);
-                refuse_unless(word.len() == 1 && check.len() == 1, TEXT)?;
-                self.heard(Hearing::of(Kind::Master, &word, &check))
+            b"master" => {
+                let (word, check) = split_once(value, b',')?;
+                list(word, &mut self.words)?;
+                list(check, &mut self.checks)?;
+                refuse_unless(self.words.len() == 1 && self.checks.len() == 1, TEXT)?;
+                self.heard(Kind::Master, out)
             }
-            "slave" => {
-                let (heard, checks) = value.split_once(';').ok_or(TEXT)?;
-                self.heard(Hearing::of(Kind::Slave, &words(heard)?, &bytes(checks)?))
+            b"slave" => {
+                let (heard, checks) = split_once(value, b';')?;
+                list(heard, &mut self.words)?;
+                list(checks, &mut self.checks)?;
+                self.heard(Kind::Slave, out)
             }
-            "quiet" => {
+            b"quiet" => {
                 let n = decimal(value)?.min(u32::MAX as u64) as u32;
-                accepted(quiet(&mut self.controller, &mut self.areas, n))?;
-                Ok(String::new())
+                accepted(quiet(&mut self.controller, &mut self.areas, n))
             }
-            "write" => {
-                let (address, written) = value.split_once(';').ok_or(TEXT)?;
-                let (address, written) = (words(address)?, words(written)?);
-                refuse_unless(address.len() == 1, TEXT)?;
-                accepted(write(&mut self.areas, address[0], &written))?;
-                Ok(String::new())
+            b"write" => {
+                let (address, written) = split_once(value, b';')?;
+                let address = u16::try_from(decimal(address)?).map_err(|_| TEXT)?;
+                list(written, &mut self.words)?;
+                accepted(write(&mut self.areas, address, &self.words))
             }
             _ => Err(TEXT),
         }
     }
 
-    fn setup_line(&mut self, key: &str, value: &str) -> Result<String, u16> {
+    fn setup_line(&mut self, key: &[u8], value: &[u8]) -> Result<(), u16> {
         refuse_unless(!self.running && key == SETUP[self.setup.len()], TEXT)?;
         self.setup.push(match (key, value) {
-            ("dir", "sink") => 1,
-            ("dir", "source") => 0,
-            ("dir", _) => return Err(TEXT),
+            (b"dir", b"sink") => 1,
+            (b"dir", b"source") => 0,
+            (b"dir", _) => return Err(TEXT),
             _ => argument(value)?,
         });
         if let [a, code, sink, p] = self.setup[..] {
             self.setup.clear();
             accepted(open(&mut self.areas, a, p, code, sink == 1, 0))?;
         }
-        Ok(String::new())
+        Ok(())
     }
 
-    /// Events are heard alike on both lines.
-    fn heard(&mut self, hearing: Hearing) -> Result<String, u16> {
+    /// The words and checks of the line at hand, heard alike on both lines.
+    fn heard(&mut self, kind: Kind, out: Output) -> Result<(), u16> {
+        let hearing = Hearing::of(kind, &self.words, &self.checks);
         let (refusal, reply) = hear(&mut self.controller, &mut self.areas, hearing, hearing);
         accepted(refusal)?;
-        Ok(match reply {
-            Some((words, checks)) => format!("reply={};{}\n", joined(&words), joined(&checks)),
-            None => String::new(),
-        })
+        if let Some((words, checks)) = reply {
+            out.extend_from_slice(b"reply=");
+            put_list(words.iter().copied(), out);
+            out.push(b';');
+            put_list(checks.iter().map(|check| *check as u16), out);
+            out.push(b'\n');
+        }
+        Ok(())
     }
 
     /// After the last line: seven lines for each open port by rising address.
-    fn finish(&self) -> Result<String, u16> {
+    fn finish(&self, out: Output) -> Result<(), u16> {
         refuse_unless(self.setup.is_empty(), TEXT)?;
-        let mut output = String::new();
         for a in 0..4096u16 {
             let state = match ask(&self.areas, a) {
                 Answer::Never => "never",
@@ -135,36 +180,55 @@ impl Program {
             let p = self.areas.index[a as usize];
             let port = &self.areas.ports[4 * p as usize..][..4];
             let dir = if port[1] & SINK != 0 { "sink" } else { "source" };
+            let (code, fills) = (port[0] >> 12, port[3]);
+            let head = format!("addr={a}\nfcode={code}\ndir={dir}\nindex={p}\nstate={state}\nfills={fills}\ndata=");
+            out.extend_from_slice(head.as_bytes());
             let data = fetch(&self.areas, a);
-            let data = if data.is_empty() { "none".to_string() } else { joined(&data) };
-            output += &format!("addr={a}\nfcode={}\ndir={dir}\nindex={p}\n", port[0] >> 12);
-            output += &format!("state={state}\nfills={}\ndata={data}\n", port[3]);
+            if data.is_empty() {
+                out.extend_from_slice(b"none");
+            }
+            put_list(data.iter().copied(), out);
+            out.push(b'\n');
         }
-        Ok(output)
+        Ok(())
+    }
+
+    /// The lines in turn, the last perhaps without its newline. What they print is written before more input is waited for.
+    fn lines<R: Read>(&mut self, input: &mut BufReader<R>, output: &mut impl Write, out: Output) -> io::Result<Result<(), u16>> {
+        let mut line = Vec::new();
+        while input.read_until(b'\n', &mut line)? > 0 {
+            if let Err(refusal) = self.line(line.strip_suffix(b"\n").unwrap_or(&line), out) {
+                return Ok(Err(refusal));
+            }
+            if input.buffer().is_empty() || out.len() > PIECE {
+                output.write_all(out)?;
+                out.clear();
+            }
+            line.clear();
+        }
+        Ok(self.finish(out))
     }
 }
 
-/// The whole program over a text; a refusal prints its number and stops.
+/// The whole program; a refusal prints its number and stops.
+fn serve(input: impl Read, output: &mut impl Write) -> io::Result<()> {
+    let (mut input, mut out) = (BufReader::with_capacity(PIECE, input), Vec::new());
+    if let Err(refusal) = Program::new().lines(&mut input, output, &mut out)? {
+        out.extend_from_slice(format!("refused={refusal}\n").as_bytes());
+    }
+    output.write_all(&out)
+}
+
+fn main() -> io::Result<()> {
+    serve(io::stdin().lock(), &mut io::stdout().lock())
+}
+
+/// The whole program over a text.
+#[cfg(test)]
 fn run(input: &str) -> String {
-    let mut program = Program::new();
-    let mut output = String::new();
-    for line in input.split_terminator('\n') {
-        match program.line(line) {
-            Ok(printed) => output += &printed,
-            Err(refusal) => return output + &format!("refused={refusal}\n"),
-        }
-    }
-    match program.finish() {
-        Ok(printed) => output + &printed,
-        Err(refusal) => output + &format!("refused={refusal}\n"),
-    }
-}
-
-fn main() {
-    let mut input = Vec::new();
-    std::io::stdin().read_to_end(&mut input).expect("standard input can be read");
-    // What is not text becomes a character no line may have, so its line is malformed.
-    print!("{}", run(&String::from_utf8_lossy(&input)));
+    let mut output = Vec::new();
+    serve(input.as_bytes(), &mut output).expect("a text can be read and written");
+    String::from_utf8(output).expect("text is printed")
 }
 
 #[cfg(test)]

@@ -4,10 +4,10 @@
 use Prim.Native.Nat.{ℕ}
 use mathlib.Core.Bool.{Bool, _&&_}
 use mathlib.Core.List.{List}
-use denote.Ref.{RefT, now}
+use denote.Ref.{now}
 use Rattle.model.specs.Layout.{Areas}
 use Rattle.model.specs.Host.{Setting, address, status, replyTime, slm, ls, clearEC}
-use Rattle.areas.specs.Lent.{lent}
+use Rattle.areas.specs.Lent.{Slice, _&_, lent}
 use Rattle.host_controller.specs.declared.GroupCall.{GroupCall}
 use Rattle.host_controller.specs.declared.GroupCall.the-variants.{ReadStatus, ReadVector, WriteStatus, WriteVector, WritePending, WriteMask}
 use Rattle.firmware_layout.specs.declared.FlatController.{FlatController}
@@ -44,15 +44,6 @@ use Rattle.firmware.proofs.group_calls.tolvendrum_write_mask.Reads as write-mas
 use Rattle.firmware.proofs.group_calls.tolvendrum_line.Reads as line-reads
 use Rattle.firmware.proofs.group_calls.tolvendrum_fc.Reads as fc-reads
 use Rattle.firmware.proofs.group_calls.tolvendrum_ec.Reads as ec-reads
-
--- the arguments of a call in their order, `tt` after the last
-infixr 40 _&_
-abbrev pub _&_ : {A B : Type 0} → A → B → A × B
-a & b = (a, b)
-
--- an area, or words, as a call is lent them
-abbrev pub Slice : Type 0
-Slice = RefT (List ℕ)
 
 -- ---- bus_calls
 

@@ -75,7 +75,7 @@ has-until b (c ∷ cs) = go (eqb c b) (has-until b cs)
 -- ---- texts without b, joined
 
 -- a text without b does not begin with one, and has none after its first byte
-lacks : (b c : ℕ) (cs : List ℕ) → has b (c ∷ cs) ≡ false → (eqb c b ≡ false) × (has b cs ≡ false)
+pub lacks : (b c : ℕ) (cs : List ℕ) → has b (c ∷ cs) ≡ false → (eqb c b ≡ false) × (has b cs ≡ false)
 unfolding has
 lacks b c cs h = go (eqb c b) h
   where

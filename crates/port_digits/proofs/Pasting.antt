@@ -59,7 +59,8 @@ ends n r = go (ltb lastPlace n) refl
     go true d = refl
     go false d = let s : n ≤ lastPlace = ltb-false lastPlace n d in omega arith
 
-written : (o : List ℕ) (at : ℕ) (t : List ℕ) → length o ≤ lastPlace → at ≤ lastPlace
+-- what is written stands in the buffer as far as there is room, and the place after it comes back
+pub written : (o : List ℕ) (at : ℕ) (t : List ℕ) → length o ≤ lastPlace → at ≤ lastPlace
     → onto (paper o at) t ≡ paper (sets o at t) (cut lastPlace (at + length t))
 unfolding onto
 written o at [] h k = rw (add-zero at, le-ltb lastPlace at k)

@@ -70,7 +70,7 @@ fn staged(u: Setup, stage: u16) -> Setup
 }
 
 // A malformed line, or one out of its place.
-pub(crate) fn misplace(s: Stepped) -> Stepped
+pub fn misplace(s: Stepped) -> Stepped
     ensures { λ r. ⌜ ((m : Areas) (o : List ℕ) → ended m o r ≡ endedBy (paper o (s .at)) (misplaced (stateAfter m s))) ⌝ }
 {
     let mut r = s;

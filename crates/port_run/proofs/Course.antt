@@ -6,7 +6,7 @@ use mathlib.Core.Bool.{Bool, true, false, cond, _&&_}
 use mathlib.Core.List.{List, [], _∷_, _++_, append-nil}
 use mathlib.Core.Option.{Option, none, some}
 use native.Mathlib.Omega.{arith}
-use lib.Dec.{eqb, leb}
+use lib.Dec.{eqb, leb, ltb}
 use lib.ListN.{length, replicate}
 use lib.Seq.{length-sets}
 use Rattle.host_ports.specs.Host.{portAreas}
@@ -29,6 +29,7 @@ use Rattle.port_text.specs.Line.{Line, addr, fcode, index, dir, frame, quiet as
 use Rattle.port_text.specs.Line.{frameRead, firstList, secondList, below, isFrameText, readAs, framed, kept, written, writeOf, lineAs, keyOf, lineOf}
 use Rattle.port_line.specs.declared.Setup.{Setup}
 use Rattle.port_line.specs.Meaning.{State, state, Step, stepWith, misplaced, setup, whole, answered, hosted, meaning}
+use Rattle.port_run.specs.Printed.{lineIn}
 use Rattle.port_run.specs.Told.{callIn, added, lineRefusal, setupAfter, replySaid, repliesTold}
 
 -- ---- a frame that a line says has an array of sixteen words
@@ -85,10 +86,13 @@ module _ (u : Setup) where
       typed-cond (has semicolon v && below 65535 (secondList semicolon v)) (written a ws) malformed (typed-written a ws) tt
   typed-as Unknown v = tt
 
-  -- What the types say of a call's arguments holds of the call that a line makes.
-  pub typed-line : (t : List ℕ) → TypedIn (callIn (lineOf t) u)
+  typed-line : (t : List ℕ) → TypedIn (callIn (lineOf t) u)
   unfolding lineOf
   typed-line t = typed-as (keyOf (textBefore equals t)) (textAfter equals t)
+
+-- What the types say of a call's arguments holds of the call that a line makes.
+pub typed-in : (room : ℕ) (u : Setup) (t : List ℕ) → TypedIn (callIn (lineIn room t) u)
+typed-in room u t = typed-cond u (ltb room (length t)) malformed (lineOf t) tt (typed-line u t)
 
 -- ---- one line
 

@@ -9,8 +9,6 @@ use native.Mathlib.Omega.{arith}
 use borrow.Author.Tests.{eqb-true, eq-eqb, ne-eqb}
 use lib.Dec.{eqb}
 use lib.ListN.{length}
-use denote.Ref.{now}
-use Rattle.port_digits.specs.Write.{paper, pasted}
 use Rattle.model.specs.declared.Answer.{Answer}
 use Rattle.model.specs.declared.Answer.the-variants.{Never, Good, Held}
 use Rattle.model.specs.declared.Flags.{Flags}
@@ -26,14 +24,13 @@ use Rattle.model.proofs.Told.{past-told}
 use Rattle.model.proofs.Reading.{readable}
 use Rattle.model.proofs.Demands.{never-damaged}
 use Rattle.port_text.specs.Report.{stateText, dataText, portText, openText, reportBelow, report, refusedText}
-use Rattle.port_text.specs.Line.{Line, lineOf}
+use Rattle.port_text.specs.Line.{Line}
 use Rattle.port_line.specs.declared.Setup.{Setup}
 use Rattle.port_line.specs.Meaning.{freshSetup, state, whole, Step, meaning}
-use Rattle.port_run.specs.Printed.{textLines, endText, printedFrom, printed}
+use Rattle.port_run.specs.Printed.{textLines, longest, lineIn, endText, printedFrom, printed}
 use Rattle.port_run.specs.Told.{callIn, added, inPlace, callRefusal, lineRefusal, setupAfter, courseFrom, courseOf, heldIn, stateTold}
 use Rattle.port_run.specs.Told.{dataTold, linesTold, portTold, toldBelow, reportTold, repliesTold, outputTold}
-use Rattle.port_run.proofs.run.run.Reads as run-reads
-use Rattle.port_run.proofs.Course.{Does, typed-line, line-does}
+use Rattle.port_run.proofs.Course.{Does, typed-in, line-does}
 
 -- ---- what is printed of one port
 
@@ -131,35 +128,38 @@ end-undamaged : (b : Bool) → cond {A = ℕ} b 0 7 ≡ 6 → ⊥
 end-undamaged true e = omega arith
 end-undamaged false e = omega arith
 
--- the lines that are left, after a past
-record Printed (ls : List (List ℕ)) (u : Setup) (past : List Call) : Type 0 where
-  all : Accepted (courseFrom ls u past .past)
-  undamaged : courseFrom ls u past .refusal ≡ 6 → ⊥
-  text : repliesTold past ++ printedFrom ls (state u (after past)) ≡ outputTold (courseFrom ls u past)
+-- the lines that are left, after a past, with room for so many bytes of each
+record Printed (room : ℕ) (ls : List (List ℕ)) (u : Setup) (past : List Call) : Type 0 where
+  all : Accepted (courseFrom room ls u past .past)
+  undamaged : courseFrom room ls u past .refusal ≡ 6 → ⊥
+  text : repliesTold past ++ printedFrom room ls (state u (after past)) ≡ outputTold (courseFrom room ls u past)
 
-lines-told : (ls : List (List ℕ)) (u : Setup) (past : List Call) → Accepted past → Printed ls u past
+lines-told : (room : ℕ) (ls : List (List ℕ)) (u : Setup) (past : List Call) → Accepted past → Printed room ls u past
 unfolding printedFrom courseFrom endText outputTold
-lines-told [] u past run = record { all = run; undamaged = end-undamaged (whole u); text = go (whole u) }
+lines-told room [] u past run = record { all = run; undamaged = end-undamaged (whole u); text = go (whole u) }
   where
     go : (b : Bool) → repliesTold past ++ cond b (report (after past .areas)) (refusedText 7)
         ≡ repliesTold past ++ cond (eqb (cond b 0 7) 0) (reportTold past) (refusedText (cond b 0 7))
     go true = ap (λ (t : List ℕ). repliesTold past ++ t) (report-told past run)
     go false = refl
-lines-told (l ∷ ls) u past run = go (eqb number 0) refl (λ all. lines-told ls (setupAfter (lineOf l) u) made all)
+lines-told room (t ∷ ts) u past run = go (eqb number 0) refl (λ all. lines-told room ts (setupAfter l u) made all)
   where
+    l : Line
+    l = lineIn room t
+
     number : ℕ
-    number = lineRefusal (lineOf l) u past
+    number = lineRefusal l u past
 
     x : Step
-    x = meaning (lineOf l) (state u (after past))
+    x = meaning l (state u (after past))
 
     made : List Call
-    made = added (callIn (lineOf l) u) past
+    made = added (callIn l u) past
 
-    does : Does past made number (setupAfter (lineOf l) u) x
-    does = line-does u past run (lineOf l) (typed-line u l)
+    does : Does past made number (setupAfter l u) x
+    does = line-does u past run l (typed-in room u t)
 
-    go : (b : Bool) → eqb number 0 ≡ b → (Accepted made → Printed ls (setupAfter (lineOf l) u) made) → Printed (l ∷ ls) u past
+    go : (b : Bool) → eqb number 0 ≡ b → (Accepted made → Printed room ts (setupAfter l u) made) → Printed room (t ∷ ts) u past
     go true e rest =
         let none : x .refusal ≡ 0 = does .number ∙ eqb-true number 0 e in
         let m = does .makes none in
@@ -170,25 +170,20 @@ lines-told (l ∷ ls) u past run = go (eqb number 0) refl (λ all. lines-told ls
         }
     go false e rest =
         let mute = does .mute (ap (λ (n : ℕ). eqb n 0) (does .number) ∙ e) in
-        record { all = rw e run; undamaged = rw e (line-undamaged (lineOf l) u past run); text = rw (mute, does .number, e, e) }
+        record { all = rw e run; undamaged = rw e (line-undamaged l u past run); text = rw (mute, does .number, e, e) }
 
 -- DEMANDS 1, 2 AND 3 AT THE PORT PROGRAM: `courseOf` has, by document 01's tests, the calls that the lines of an input make and the number
 -- at which it is refused. These calls are a run: each of them is accepted.
 pub input-accepted : (t : List ℕ) → Accepted (courseOf t .past)
 unfolding courseOf
-input-accepted t = lines-told (textLines t) freshSetup [] tt .all
+input-accepted t = lines-told longest (textLines t) freshSetup [] tt .all
 
 -- No input is refused with 6: its lines meet no damage.
 pub input-undamaged : (t : List ℕ) → courseOf t .refusal ≡ 6 → ⊥
 unfolding courseOf
-input-undamaged t = lines-told (textLines t) freshSetup [] tt .undamaged
+input-undamaged t = lines-told longest (textLines t) freshSetup [] tt .undamaged
 
 -- What is printed of an input is what its past tells: the replies, and then of each open port its seven lines, or the number of the refusal.
 pub printed-told : (t : List ℕ) → printed t ≡ outputTold (courseOf t)
 unfolding printed courseOf after repliesTold
-printed-told t = lines-told (textLines t) freshSetup [] tt .text
-
--- So what `run::run` leaves in its buffer, by its contract as it stands.
-pub run-told : (κs : _) (a : _) (r : _) (e : _) → run-reads.Learnt κs a r e
-    → paper (now (e .1 .0)) r ≡ pasted (now (a .1 .0)) (outputTold (courseOf (now (a .0))))
-run-told κs a r e p = p ∙ ap (pasted (now (a .1 .0))) (printed-told (now (a .0)))
+printed-told t = lines-told longest (textLines t) freshSetup [] tt .text

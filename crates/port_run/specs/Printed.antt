@@ -2,12 +2,13 @@
 use Prim.Native.Nat.{ℕ}
 use mathlib.Core.Bool.{cond}
 use mathlib.Core.List.{List, [], _∷_, _++_}
-use lib.Dec.{eqb}
+use lib.Dec.{eqb, ltb}
+use lib.ListN.{length}
 use Rattle.port_digits.specs.Marks.{newline}
 use Rattle.model.specs.Calls.{start}
 use Rattle.model.specs.Layout.{Areas}
 use Rattle.port_line.specs.declared.Setup.{Setup}
-use Rattle.port_text.specs.Line.{lineOf}
+use Rattle.port_text.specs.Line.{Line, malformed, lineOf}
 use Rattle.port_line.specs.Meaning.{freshSetup, State, state, whole, meaning}
 use Rattle.port_text.specs.Report.{report, refusedText}
 
@@ -23,19 +24,29 @@ unfoldable pub textLines : List ℕ → List (List ℕ)
 textLines [] = []
 textLines (c ∷ cs) = cond (eqb c newline) ([] ∷ textLines cs) (onFirst c (textLines cs))
 
+-- ---- a line as long as there is room for it
+
+-- the longest line of the port program, in bytes without its newline
+abbrev pub longest : ℕ
+longest = 1024
+
+-- a line for which there is no room is malformed
+abbrev pub lineIn : ℕ → List ℕ → Line
+lineIn room l = cond (ltb room (length l)) malformed (lineOf l)
+
 -- ---- what is printed
 
 -- at the end: the open ports; a port that is described in part is refused
 unfoldable pub endText : Setup → Areas → List ℕ
 endText u m = cond (whole u) (report m) (refusedText 7)
 
--- line by line; a refusal prints its number and stops
-unfoldable pub printedFrom : List (List ℕ) → State → List ℕ
-printedFrom [] s = endText (s .setup) (s .world .areas)
-printedFrom (l ∷ ls) s =
-    let x = meaning (lineOf l) s in
-    x .said ++ cond (eqb (x .refusal) 0) (printedFrom ls (x .next)) (refusedText (x .refusal))
+-- line by line, with room for so many bytes of each; a refusal prints its number and stops
+unfoldable pub printedFrom : ℕ → List (List ℕ) → State → List ℕ
+printedFrom room [] s = endText (s .setup) (s .world .areas)
+printedFrom room (l ∷ ls) s =
+    let x = meaning (lineIn room l) s in
+    x .said ++ cond (eqb (x .refusal) 0) (printedFrom room ls (x .next)) (refusedText (x .refusal))
 
 -- from a fresh controller and cleared areas
 unfoldable pub printed : List ℕ → List ℕ
-printed t = printedFrom (textLines t) (state freshSetup start)
+printed t = printedFrom longest (textLines t) (state freshSetup start)

@@ -14,10 +14,10 @@ use Rattle.model.specs.Calls.{Call, hear, quiet, openPort, writePort, refusal}
 use Rattle.model.specs.Past.{after, Opening, openingOf, Happening, hears, passes, sets, changes, happening, replyIn, lastOf, fillings}
 use Rattle.port_text.specs.Words.{wAddr, wFcode, wDir, wIndex, wState, wFills, wData, wNever, wGood, wHeld, wNone}
 use Rattle.port_text.specs.Report.{lineText, dirText, refusedText, replyText}
-use Rattle.port_text.specs.Line.{Line, addr, fcode, index, dir, frame, quiet as quietLine, write, malformed, lineOf}
+use Rattle.port_text.specs.Line.{Line, addr, fcode, index, dir, frame, quiet as quietLine, write, malformed}
 use Rattle.port_line.specs.declared.Setup.{Setup}
 use Rattle.port_line.specs.Meaning.{setup, freshSetup, whole}
-use Rattle.port_run.specs.Printed.{textLines}
+use Rattle.port_run.specs.Printed.{textLines, longest, lineIn}
 
 -- ---- the calls that the lines make
 
@@ -78,16 +78,17 @@ pub record Course : Type 0 where
 abbrev pub course : List Call → ℕ → Course
 course past n = record { past = past; refusal = n }
 
--- line by line up to the first refusal; a port that is described in part at the end is refused
-unfoldable pub courseFrom : List (List ℕ) → Setup → List Call → Course
-courseFrom [] u past = course past (cond (whole u) 0 7)
-courseFrom (l ∷ ls) u past =
-    let n = lineRefusal (lineOf l) u past in
-    cond (eqb n 0) (courseFrom ls (setupAfter (lineOf l) u) (added (callIn (lineOf l) u) past)) (course past n)
+-- line by line up to the first refusal, with room for so many bytes of each; a port that is described in part at the end is refused
+unfoldable pub courseFrom : ℕ → List (List ℕ) → Setup → List Call → Course
+courseFrom room [] u past = course past (cond (whole u) 0 7)
+courseFrom room (t ∷ ts) u past =
+    let l = lineIn room t in
+    let n = lineRefusal l u past in
+    cond (eqb n 0) (courseFrom room ts (setupAfter l u) (added (callIn l u) past)) (course past n)
 
 -- the whole input, from a fresh controller and cleared areas
 unfoldable pub courseOf : List ℕ → Course
-courseOf t = courseFrom (textLines t) freshSetup []
+courseOf t = courseFrom longest (textLines t) freshSetup []
 
 -- ---- what the past tells of a port
 
