@@ -1,5 +1,5 @@
 #!/usr/bin/env python3
-"""usage: port.py PROGRAM REFERENCE: both over a file of a million lines, in turns, each in an address space of 8 MB."""
+"""usage: port.py PROGRAM REFERENCE PEER: each over a file of a million lines, in turns, in an address space of 8 MB."""
 import os
 import resource
 import subprocess
@@ -32,16 +32,17 @@ def printed(program, path):
 
 
 def main():
-    programs = sys.argv[1:3]
+    programs = sys.argv[1:4]
     path = os.path.join(os.path.dirname(programs[1]), "million")
     with open(path, "w", encoding="ascii") as f:
         f.write(SETUP + LINES * EXCHANGES)
     texts = [printed(program, path) for program in programs]
-    if texts[0] != texts[1] or texts[0].count(b"reply=") != EXCHANGES:
-        sys.exit("the two programs do not print the same")
+    if any(text != texts[0] for text in texts) or texts[0].count(b"reply=") != EXCHANGES:
+        sys.exit("the programs do not print the same")
     best = [min(times) for times in zip(*[[seconds(program, path) for program in programs] for _ in range(ROUNDS)])]
-    lines = 4 * EXCHANGES
-    print("ns a line: program %.0f, reference %.0f, ratio %.3f (bar 1.25)" % (best[0] * 1e9 / lines, best[1] * 1e9 / lines, best[0] / best[1]))
+    program, reference, peer = [fastest * 1e9 / (4 * EXCHANGES) for fastest in best]
+    print("ns a line: program %.0f; reference %.0f, ratio %.3f (bar 1.25)" % (program, reference, program / reference), end="; ")
+    print("peer %.0f, ratio %.3f" % (peer, program / peer))
 
 
 main()

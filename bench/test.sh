@@ -1,9 +1,15 @@
 #!/usr/bin/env bash
-# The reference's own tests: of its library and of its port program. Needs rustc; writes only below target/.
+# The reference's own tests: of its library, also as the peer with check bytes from a table, and of its port program. Needs rustc; writes only
+# below target/.
 set -eu
 cd "$(dirname "$0")/.."
 . bench/reference.sh
-for part in lib main; do
-    rustc --edition 2021 -C opt-level=2 --test --extern reference="$reference" -o "target/bench/test_$part" "bench/reference/src/$part.rs"
+try() { # PART OPTION..
+    part=$1
+    shift
+    rustc --edition 2021 -C opt-level=2 --test --extern reference="$reference" "$@" -o "target/bench/test_$part" "bench/reference/src/$part.rs"
     "target/bench/test_$part" --quiet
-done
+}
+try lib
+try lib --cfg table
+try main

@@ -22,6 +22,12 @@ LIMIT = 65536
 # Document 01, "Numbers on either side".
 PUBLISHED = [([0x0000], 0xFF), ([0x0001], 0x34), ([0x0002], 0xA1), ([0x0003], 0x6A), ([0x0000, 0x0001], 0x34)]
 
+# More checks that must come out.
+KNOWN = [([0xFFFF], 0x05), ([0x1234], 0xA2)]
+
+# Words in two steps of the step table: what the high byte leaves, the low byte, and what both leave.
+STEPS = [(0x01, 0x00, 0x2F), (0x7F, 0xFF, 0x65), (0x40, 0x80, 0x00)]
+
 SPECIAL = [0x0000, 0xFFFF, 0x8000, 0x0001, 0x5555, 0xAAAA]
 
 
@@ -39,6 +45,18 @@ def remainder(data):
                 rest[at + k] = (rest[at + k] - G[k]) % 2
     assert not any(rest[: len(data)])
     return rest[len(data) :]
+
+
+def left_by(bits):
+    """The remainder as a number."""
+    return int("".join(str(bit) for bit in remainder(bits)), 2)
+
+
+def stepped(r, low, left):
+    """The words whose high byte leaves r, with this low byte: they leave `left`."""
+    words = [high * 256 + low for high in range(256) if left_by(bits_of(high)[8:]) == r]
+    assert len(words) == 2 and all(left_by(bits_of(word)) == left for word in words)
+    return [[word] for word in words]
 
 
 def check(block):
@@ -94,10 +112,12 @@ def kinds():
         yield "line of %d" % size, [numbers.words(size) for _ in range(2)], padded
     # After the lines that are too long, one that is not.
     yield "after those", [[0x0001]], padded
+    yield "known", [words for words, _ in KNOWN], padded
+    yield "two steps", [words for step in STEPS for words in stepped(*step)], padded
 
 
 def assert_published():
-    for words, byte in PUBLISHED:
+    for words, byte in PUBLISHED + KNOWN:
         assert check(words) == byte, "check of %s is not %02x" % (words, byte)
     assert check([0, 0, 1]) == check([1])
 

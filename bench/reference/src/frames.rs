@@ -3,9 +3,17 @@
 use crate::refusal::{refuse_unless, RANGE};
 
 /// G(x) = x^7 + x^6 + x^5 + x^2 + 1, from the highest power down.
+#[cfg(not(table))]
 const G: [u8; 8] = [1, 1, 1, 0, 0, 1, 0, 1];
 
+#[cfg(table)]
+#[path = "../../peer.rs"]
+mod peer;
+#[cfg(table)]
+pub use peer::check_byte;
+
 /// The check byte of a block of one to four words.
+#[cfg(not(table))]
 pub fn check_byte(block: &[u16]) -> u8 {
     // The bits of the block, most significant bit first.
     let mut data: Vec<u8> = Vec::new();
@@ -82,7 +90,8 @@ impl Hearing {
     }
 
     pub fn bytes_right(&self) -> bool {
-        check_bytes(&self.words[..self.size]) == self.checks[..self.ends]
+        let checks = self.words[..self.size].chunks(4).map(check_byte);
+        checks.eq(self.checks[..self.ends].iter().copied())
     }
 
     /// Sound as a frame of that size; none is the size of a frame nobody expects.

@@ -1,15 +1,11 @@
 -- What is sought for a master word, by its number, is the model's port for the word: `portFor`, `sinkFor`, and what these give a sound
 -- master frame, a judged slave frame and a reply time that is reached. Assumes nothing.
-use Prim.Native.Nat.{ℕ, min, _≤_}
+use Prim.Native.Nat.{ℕ}
 use mathlib.Core.Path.{_≡_, refl, sym, _∙_, ap}
 use mathlib.Core.Bool.{Bool, true, false, cond, not, _&&_}
 use mathlib.Core.List.{List}
 use mathlib.Core.Option.{Option, none, some}
-use native.Mathlib.Decide.{decLe}
-use native.Mathlib.Omega.{arith}
 use lib.Dec.{eqb, leb}
-use lib.ListN.{length, take}
-use lib.Seq.{take-all}
 use Rattle.frames.specs.declared.Hearing.{Hearing}
 use Rattle.frames.specs.declared.Judgement.{Judgement}
 use Rattle.frames.specs.declared.Judgement.the-variants.{Sound, Unsound as Bad}
@@ -134,11 +130,3 @@ unfolding apply filled
 taken-apart i m none j h = refl
 taken-apart i m (some v) Sound h = refl
 taken-apart i m (some v) (Bad crc) h = refl
-
--- an array of sixteen words is cut at sixteen
-pub cut : (l : List ℕ) (n : ℕ) → length l ≡ 16 → take (min n 16) l ≡ take n l
-cut l n e = go (decLe n 16)
-  where
-    go : Dec (n ≤ 16) → take (min n 16) l ≡ take n l
-    go (yes h) = let m : min n 16 ≡ n = omega arith in rw m
-    go (no h) = let m : min n 16 ≡ 16 = omega arith in rw m (take-all 16 l (omega arith) ∙ sym (take-all n l (omega arith)))

@@ -1,8 +1,6 @@
 -- The invariant of runs: after any past of accepted calls, controller and areas are as the past tells. Assumes nothing.
 use mathlib.Core.Path.{_≡_, refl}
 use mathlib.Core.List.{List, [], _∷_}
-use lib.Dec.{lit<, lit≤}
-use Rattle.model.specs.Host.{freshController, status}
 use Rattle.model.specs.Calls.{Call, hear, quiet, openPort, closePort, writePort, readPort, setting, outOfRange, refusal, step}
 use Rattle.model.specs.Calls.{clearedAreas, start}
 use Rattle.model.specs.Past.{after, Typed, Accepted, awaited, openingOf, countSince, framesJudged, lastSettings, framesUnsound}

@@ -3,7 +3,7 @@ use Prim.Native.Nat.{ℕ, suc, _+_, _<_, _≤_}
 use mathlib.Core.Path.{_≡_, refl, _∙_, ap}
 use mathlib.Core.List.{List, [], _∷_, _++_}
 use mathlib.Core.Bool.{Bool, true, false, cond}
-use native.Mathlib.Nat.{zero-add, add-zero, add-suc, suc-add}
+use native.Mathlib.Nat.{add-zero, add-suc, suc-add}
 use native.Mathlib.Numerals.{add-one}
 use native.Mathlib.Omega.{arith}
 use borrow.Author.Tests.{lt-ltb, le-ltb, ltb-true, ltb-false}
@@ -11,7 +11,7 @@ use lib.Dec.{ltb}
 use lib.ListN.{length, getD, set, drop, length-set}
 use lib.Seq.{sets, set-out, drop-cons}
 use Rattle.port_digits.specs.Read.{cut}
-use Rattle.port_digits.specs.Write.{Paper, paper, lastPlace, withByte, onto, pasted, decimal, dueComma, commasFrom}
+use Rattle.port_digits.specs.Write.{Paper, paper, lastPlace, withByte, onto, decimal, dueComma, commasFrom}
 
 -- one text after another is the joined text
 pub onto-more : (p : Paper) (t u : List ℕ) → onto (onto p t) u ≡ onto p (t ++ u)
@@ -85,8 +85,3 @@ written o at (b ∷ t) h k = go (ltb at lastPlace) refl (λ n r. written (set o 
           ends (at + length t) (omega arith),
           ends (at + suc (length t)) (omega arith),
         )
-
--- what is written from the first place on stands in the buffer as far as there is room
-pub onto-pasted : (o t : List ℕ) → length o ≤ lastPlace → onto (paper o 0) t ≡ pasted o t
-unfolding pasted
-onto-pasted o t h = written o 0 t h (omega arith) ∙ rw (zero-add (length t))

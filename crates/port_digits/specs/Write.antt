@@ -3,10 +3,8 @@ use Prim.Native.Nat.{ℕ, _+_, _/_, _%_}
 use mathlib.Core.Bool.{Bool, true, false, cond}
 use mathlib.Core.List.{List, [], _∷_, _++_}
 use lib.Dec.{ltb}
-use lib.ListN.{length, set}
-use lib.Seq.{sets}
+use lib.ListN.{set}
 use Rattle.port_digits.specs.Marks.{comma}
-use Rattle.port_digits.specs.Read.{cut}
 
 -- ---- a lent buffer, and the place where the next byte goes
 
@@ -35,10 +33,6 @@ withByte p b = paper (set (p .text) (p .at) b) (nextPlace (p .at))
 unfoldable pub onto : Paper → List ℕ → Paper
 onto p [] = p
 onto p (b ∷ t) = onto (withByte p b) t
-
--- a text in a buffer, from its first place on: as far as there is room, and the length of all of it, or the largest place that there is
-unfoldable pub pasted : List ℕ → List ℕ → Paper
-pasted o t = paper (sets o 0 t) (cut lastPlace (length t))
 
 -- ---- numbers
 

@@ -14,8 +14,8 @@ use Rattle.port_run.proofs.Lines.{lines-some, lines-on, lines-last, fir
 use Rattle.model.specs.Calls.{start}
 use Rattle.port_line.specs.Meaning.{State, state, freshSetup, Step, meaning}
 use Rattle.port_text.specs.Report.{refusedText}
-use Rattle.port_run.specs.Printed.{onFirst, textLines, longest, lineIn, printedFrom, printed}
-use Rattle.port_run.specs.Fed.{Feeding, feeding, unfed, Fed, fedWith, stopText, worked, unended, byteFed, fed, partFed, endSaid}
+use Rattle.port_run.specs.Printed.{textLines, longest, lineIn, printedFrom, printed}
+use Rattle.port_run.specs.Fed.{Feeding, feeding, unfed, Fed, fedWith, stopText, worked, byteFed, fed, partFed, endSaid}
 
 -- ---- more bytes
 

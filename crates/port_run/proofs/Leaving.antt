@@ -1,8 +1,8 @@
 -- What the code leaves of a line, in the terms of the definitions. Assumes nothing.
-use Prim.Native.Nat.{ℕ, suc, _+_, _-_, _<_, _≤_, min}
+use Prim.Native.Nat.{ℕ, suc, _+_, _-_, _<_, _≤_}
 use mathlib.Core.Path.{_≡_, refl, sym, _∙_, ap}
 use mathlib.Core.Bool.{Bool, true, false, cond, false≢true}
-use mathlib.Core.List.{List, [], _∷_, _++_, append-nil}
+use mathlib.Core.List.{List, [], _++_, append-nil}
 use native.Mathlib.Nat.{add-suc}
 use native.Mathlib.Numerals.{add-one}
 use native.Mathlib.Omega.{arith}
@@ -17,7 +17,6 @@ use Rattle.port_digits.specs.Write.{Paper, paper, onto, lastPlace}
 use Rattle.port_digits.proofs.Cutting.{until-within, take-until, drop-until, has-until}
 use Rattle.port_digits.proofs.Pasting.{onto-more, written}
 use Rattle.port_line.specs.Meaning.{State, Ended, Step, endedBy, misplaced, meaning}
-use Rattle.port_text.specs.Report.{refusedText}
 use Rattle.port_run.specs.Printed.{lineIn}
 use Rattle.port_run.specs.Fed.{Feeding, feeding, Fed, fedWith, stopText, worked, unended, fed, partFed, lastFed, Left, leftBy}
 use Rattle.port_run.proofs.Fed.{worked-over, part-next}
@@ -122,19 +121,6 @@ module _ (t : List ℕ) (i n : ℕ) (h : i < length t) (found : n ≡ until newl
       let k : x ≡ leftBy p y = e ∙ rw (part-before, part-ends) in
       rw (part-after, part-next room f (drop i t) short)
       (ap (λ (z : Left). leftBy (z .out) (fed room (z .next) u)) k ∙ rw (onto-more p (y .said) (fed room (y .next) u .said)))
-
--- a count that is cut to a text's length takes as much of it
-pub take-least : (n k : ℕ) (l : List ℕ) → k ≡ min n (length l) → take k l ≡ take n l
-take-least n k l cut = go (ltb (length l) n) refl
-  where
-    go : (b : Bool) → ltb (length l) n ≡ b → take k l ≡ take n l
-    go true e =
-        let h : length l < n = ltb-true (length l) n e in
-        take-all k l (omega (arith, cut, h)) ∙ sym (take-all n l (omega (arith, h)))
-    go false e =
-        let h : n ≤ length l = ltb-false (length l) n e in
-        let m : k ≡ n = omega (arith, cut, h) in
-        rw m
 
 -- ---- at the end
 

@@ -12,6 +12,7 @@ use Rattle.port_line.specs.declared.Stepped.{Stepped}
 use Rattle.port_run.specs.declared.Feed.{Feed}
 use Rattle.port_run.specs.Fed.{Left, left}
 use Rattle.port_run.proofs.pieces.begin.Reads as begin-reads
+use Rattle.port_run.proofs.pieces.rewind.Reads as rewind-reads
 use Rattle.port_run.proofs.pieces.feed.Reads as feed-reads
 use Rattle.port_run.proofs.pieces.close.Reads as close-reads
 use Rattle.port_run.proofs.pieces.finish.Reads as finish-reads
@@ -19,6 +20,10 @@ use Rattle.port_run.proofs.pieces.finish.Reads as finish-reads
 -- `begin` answers the same record.
 pub one-begin : (κs : _) (a : _) (r s : _) (e f : _) → begin-reads.Learnt κs a r e → begin-reads.Learnt κs a s f → r ≡ s
 one-begin κs a r s e f p q = p ∙ sym q
+
+-- So does `rewind`.
+pub one-rewind : (κs : _) (a : _) (r s : _) (e f : _) → rewind-reads.Learnt κs a r e → rewind-reads.Learnt κs a s f → r ≡ s
+one-rewind κs a r s e f p q = p ∙ sym q
 
 -- what the last line left, from what is promised
 abbrev lineLeft : Left → Stepped

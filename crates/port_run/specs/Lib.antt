@@ -1,3 +1,2 @@
 pub mod Printed
 pub mod Fed
-pub mod Told

@@ -42,8 +42,8 @@ pushed p r b h k = record {
       reduced ((p * 2 + b) * 128) (bitXor (r * 2) (b * 128)) (subst (λ (n : ℕ). Multiple n) (sym (carried p r b h)) (shift (k .divides)));
 }
 
--- k digits more
-more : (k p r w : ℕ) → Remainder (p * 128) r → Remainder ((p * 2 ^ k + w % 2 ^ k) * 128) (pushes k r w)
+-- k digits more: what they leave after the remainder of those before them is the remainder of all
+pub more : (k p r w : ℕ) → Remainder (p * 128) r → Remainder ((p * 2 ^ k + w % 2 ^ k) * 128) (pushes k r w)
 unfolding pushes
 more zero p r w h =
     let e : p * 1 + w % 1 ≡ p = omega arith in
@@ -64,6 +64,10 @@ words (w ∷ ws) p r f h =
     words ws (p * 2 ^ 16 + w) (pushes 16 r w) (f .1)
     (subst (λ (n : ℕ). Remainder ((p * 2 ^ 16 + n) * 128) (pushes 16 r w)) (mod-eq-of-lt (f .0)) (more 16 p r w h))
 
+-- no digits leave nothing
+pub nothing : Remainder (0 * 2 ^ 7) 0
+nothing = record { small = lit< tt; divides = none }
+
 -- The remainder of the words is the one of their bits times x^7 modulo G.
 pub is-remainder : (ws : List ℕ) → Words ws → Remainder (joined 0 ws * 2 ^ 7) (rest 0 ws)
-is-remainder ws f = words ws 0 0 f (record { small = lit< tt; divides = none })
+is-remainder ws f = words ws 0 0 f nothing

@@ -5,5 +5,7 @@ pub mod Linear
 pub mod Cat
 pub mod Divides
 pub mod Unique
+pub mod Steps
+pub mod Ones
 pub mod Blocks
 pub mod OneCheck

@@ -28,11 +28,11 @@ differ-assoc (suc zero) (suc (suc y)) z h k l = omega arith
 differ-assoc (suc (suc x)) y z h k l = omega arith
 
 -- the last digit of a sum says whether the last digits differ
-xor-odd : (a b : ℕ) → bitXor a b % 2 ≡ differ (a % 2) (b % 2)
+pub xor-odd : (a b : ℕ) → bitXor a b % 2 ≡ differ (a % 2) (b % 2)
 xor-odd a b = ap (λ (n : ℕ). n % 2) (xor-step a b) ∙ digits-mod (bitXor (a / 2) (b / 2)) (differ-lt (a % 2) (b % 2) (bit a) (bit b))
 
 -- a sum without its last digit is the sum of both without theirs
-xor-half : (a b : ℕ) → bitXor a b / 2 ≡ bitXor (a / 2) (b / 2)
+pub xor-half : (a b : ℕ) → bitXor a b / 2 ≡ bitXor (a / 2) (b / 2)
 xor-half a b = xor-shr a b 1
 
 -- a sum of three does not depend on which two are added first

@@ -1,3 +1,5 @@
 pub mod Check
 pub mod Frame
 pub mod Remainder
+pub mod Steps
+pub mod Joined

@@ -1,6 +1,5 @@
 -- `read_some` is safe and ends: the measure is the number of turns that are left. Assumes nothing.
-use mathlib.Core.Path.{_≡_, refl}
-use native.Mathlib.Omega.{arith}
+use mathlib.Core.Path.{_≡_}
 use lib.ListN.{length}
 use borrow.Author.Needs.{needs}
 use Rattle.port_stream.proofs.read_some.Statement.{statement}

@@ -19,8 +19,8 @@ returns-2 c =
 
 returns-3 : tie.Need-returns-3
 returns-3 c =
-    let n = length (c .before .before .before .before .args .words .now) in
+    let n = length (c .before .before .before .before .before .before .args .words .now) in
     rw (lt-ltb 0 n (omega arith), le-leb n 4 (omega arith)) (ap (λ (b : ℕ). (0, some b)) (c .check .ensures))
 
 pub block-check-spec : {M : Type 1} → statement M
-block-check-spec = tie.close (tie.spec returns returns-2 (λ c κs. search needs) returns-3)
+block-check-spec = tie.close (tie.spec returns returns-2 (λ c κs. search needs) (λ c κs. search needs) returns-3)

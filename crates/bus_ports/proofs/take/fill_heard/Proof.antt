@@ -4,7 +4,7 @@ use native.Mathlib.Omega.{arith}
 use lib.ListN.{length}
 use lib.Seq.{length-take-le}
 use Rattle.frames.specs.Hearing.{wordsOf}
-use Rattle.bus_ports.proofs.Ports.{cut}
+use Rattle.logic.proofs.Taking.{take-least}
 use borrow.Author.Needs.{needs}
 use Rattle.bus_ports.proofs.take.fill_heard.Statement.{statement}
 use Rattle.bus_ports.proofs.take.fill_heard.Tie as tie
@@ -27,7 +27,8 @@ returns c =
     .before .before .before .before .before .before .before .before .args .h in
     let l : length (h .words) ≡ 16 = search needs in
     let filled = c .before .before .before .before .before .before in
-    rw (filled .fill .ensures, filled .before .before .before .before .before .least .ensures, cut (h .words) (h .size) l)
+    let n = filled .before .before .before .before .before .least in
+    rw (filled .fill .ensures, take-least (h .size) (n .result) (h .words) (rw l (n .ensures)))
 
 pub fill-heard-spec : {M : Type 1} → statement M
 fill-heard-spec =

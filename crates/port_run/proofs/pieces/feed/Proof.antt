@@ -1,7 +1,7 @@
 -- `pieces::feed` goes through a piece part by part. The loop's invariant: what is left of the rest, from here on, is what is left of the whole
 -- piece from its start. Assumes nothing.
-use Prim.Native.Nat.{ℕ, _+_, _-_, _≤_, _<_}
-use mathlib.Core.Path.{_≡_, refl, sym, _∙_, ap}
+use Prim.Native.Nat.{ℕ, _+_, _-_, _≤_}
+use mathlib.Core.Path.{_≡_, refl, _∙_, ap}
 use mathlib.Core.List.{List}
 use native.Mathlib.Omega.{arith}
 use denote.Ref.{now}
@@ -11,7 +11,8 @@ use Rattle.model.specs.Layout.{areas}
 use Rattle.areas.specs.Lent.{lent}
 use Rattle.port_line.specs.Meaning.{stateAfter}
 use Rattle.port_run.specs.Fed.{feeding, fed, feedingOf, leftBy}
-use Rattle.port_run.proofs.Leaving.{take-least, part-within, part-on}
+use Rattle.logic.proofs.Taking.{take-least}
+use Rattle.port_run.proofs.Leaving.{part-within, part-on}
 use borrow.Author.Needs.{needs}
 use Rattle.port_run.proofs.pieces.feed.Statement.{statement}
 use Rattle.port_run.proofs.pieces.feed.Tie as tie

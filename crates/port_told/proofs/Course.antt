@@ -29,8 +29,8 @@ use Rattle.port_text.specs.Line.{Line, addr, fcode, index, dir, frame, quiet as
 use Rattle.port_text.specs.Line.{frameRead, firstList, secondList, below, isFrameText, readAs, framed, kept, written, writeOf, lineAs, keyOf, lineOf}
 use Rattle.port_line.specs.declared.Setup.{Setup}
 use Rattle.port_line.specs.Meaning.{State, state, Step, stepWith, misplaced, setup, whole, answered, hosted, meaning}
 use Rattle.port_run.specs.Printed.{lineIn}
-use Rattle.port_run.specs.Told.{callIn, added, lineRefusal, setupAfter, replySaid, repliesTold}
+use Rattle.port_told.specs.Told.{callIn, added, lineRefusal, setupAfter, replySaid, repliesTold}
 
 -- ---- a frame that a line says has an array of sixteen words
 

@@ -27,10 +27,10 @@ use Rattle.port_text.specs.Report.{stateText, dataText, portText, openText, rep
 use Rattle.port_text.specs.Line.{Line}
 use Rattle.port_line.specs.declared.Setup.{Setup}
 use Rattle.port_line.specs.Meaning.{freshSetup, state, whole, Step, meaning}
 use Rattle.port_run.specs.Printed.{textLines, longest, lineIn, endText, printedFrom, printed}
-use Rattle.port_run.specs.Told.{callIn, added, inPlace, callRefusal, lineRefusal, setupAfter, courseFrom, courseOf, heldIn, stateTold}
-use Rattle.port_run.specs.Told.{dataTold, linesTold, portTold, toldBelow, reportTold, repliesTold, outputTold}
-use Rattle.port_run.proofs.Course.{Does, typed-in, line-does}
+use Rattle.port_told.specs.Told.{callIn, added, inPlace, callRefusal, lineRefusal, setupAfter, courseFrom, courseOf, heldIn, stateTold}
+use Rattle.port_told.specs.Told.{dataTold, linesTold, portTold, toldBelow, reportTold, repliesTold, outputTold}
+use Rattle.port_told.proofs.Course.{Does, typed-in, line-does}
 
 -- ---- what is printed of one port
 
