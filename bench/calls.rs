@@ -32,6 +32,8 @@ impl Run {
         self.see("replies", reply.is_some());
         self.see("fills", before.chunks(4).zip(self.plain.ports.chunks(4)).any(|(x, y)| x.last() != y.last()));
         self.see("status bits", before.chunks(4).zip(self.plain.ports.chunks(4)).any(|(x, y)| x != y && x.last() == y.last()));
+        let blocks = |words: &[u16]| words.get(1).map(|flags| flags & plain::areas::BLOCKS);
+        self.see("block marks", before.chunks(4).zip(self.plain.ports.chunks(4)).any(|(x, y)| blocks(x) != blocks(y)));
         self.see("line switches", left.lines.laa != f.lines.laa && refusal == 0);
         self.refusal(refusal);
         self.keep(f, got.controller, c);

@@ -92,6 +92,7 @@ impl Run {
             6 => h.violation = 1,
             7 => h.alo = 1,
             8 => h.checks = [self.random.word() as u8; 4],
+            9 => h.checks = h.checks.map(|check| check ^ self.random.below(2) as u8),
             _ => {}
         }
         if self.random.once_in(400) {

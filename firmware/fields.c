@@ -1,5 +1,5 @@
 /* Every field of the structs by its name: each is brought to a number that no field beside it has, through the calls, and read. A header
- * whose fields lie in another order does not pass. run.sh builds and runs it. */
+ * whose fields lie in another order does not pass; nor does one whose marks of blocks do. run.sh builds and runs it. */
 #include "tolvendrum.h"
 
 #include <stdio.h>
@@ -13,10 +13,17 @@ static uint16_t page1[TOLVENDRUM_PAGE_LENGTH];
     index_table, TOLVENDRUM_INDEX_LENGTH, port_words, TOLVENDRUM_PORTS_LENGTH, page0, TOLVENDRUM_PAGE_LENGTH, page1,                    \
         TOLVENDRUM_PAGE_LENGTH
 
-enum { SINK_ADDRESS = 1, SOURCE_ADDRESS = 2, SINK_PORT = 7, SOURCE_PORT = 8, ONE_WORD = 0, TWO_WORDS = 1, TRANSFER = 3 };
+enum { SINK_ADDRESS = 1, SOURCE_ADDRESS = 2, LONG_ADDRESS = 3, SINK_PORT = 7, SOURCE_PORT = 8, LONG_PORT = 9 };
+enum { ONE_WORD = 0, TWO_WORDS = 1, SIXTEEN_WORDS = 4, TRANSFER = 3 };
 
 /* The words of a port: its flags are the second. */
-enum { FLAGS = 4 * SINK_PORT + 1, TERR = 32, SQE = 128, ALO = 256, STATUS_BITS = 16 + 32 + 64 + 128 + 256 };
+enum {
+    FLAGS = 4 * SINK_PORT + 1,
+    LONG_FLAGS = 4 * LONG_PORT + 1,
+    SIDES = TOLVENDRUM_PORT_VP | TOLVENDRUM_PORT_EVER | TOLVENDRUM_PORT_SRC | TOLVENDRUM_PORT_SINK,
+    TERR = TOLVENDRUM_PORT_TERR,
+    CRC = TOLVENDRUM_PORT_CRC
+};
 
 static int failures;
 
@@ -131,7 +138,7 @@ static uint16_t status_after(tolvendrum_hearing h)
 {
     tolvendrum_controller c = hear(tolvendrum_reset(), master(SINK_ADDRESS)).controller;
     hear(c, h);
-    return port_words[FLAGS] & STATUS_BITS;
+    return port_words[FLAGS] & ~SIDES;
 }
 
 static void hearings_and_ports(void)
@@ -141,13 +148,13 @@ static void hearings_and_ports(void)
     IS(tolvendrum_open(AREAS, SOURCE_ADDRESS, SOURCE_PORT, TWO_WORDS, TOLVENDRUM_SOURCE, 0), 0);
     tolvendrum_hearing slave = frame(TOLVENDRUM_SLAVE, &word, 1), marked = slave;
     marked.sqe = 1;
-    IS(status_after(marked), TERR | SQE);
+    IS(status_after(marked), TERR | TOLVENDRUM_PORT_SQE);
     marked = slave;
     marked.violation = 1;
     IS(status_after(marked), TERR);
     marked = slave;
     marked.alo = 1;
-    IS(status_after(marked), TERR | ALO);
+    IS(status_after(marked), TERR | TOLVENDRUM_PORT_ALO);
     IS(tolvendrum_ask(AREAS, SINK_ADDRESS).value, TOLVENDRUM_NEVER);
     IS(status_after(slave), 0);
     IS(tolvendrum_ask(AREAS, SINK_ADDRESS).value, TOLVENDRUM_GOOD);
@@ -170,9 +177,29 @@ static void hearings_and_ports(void)
     IS(tolvendrum_close(AREAS, SOURCE_ADDRESS), 0);
 }
 
+static void blocks(void)
+{
+    static const uint16_t marks[4] = {
+        TOLVENDRUM_PORT_FIRST_BLOCK, TOLVENDRUM_PORT_SECOND_BLOCK, TOLVENDRUM_PORT_THIRD_BLOCK, TOLVENDRUM_PORT_FOURTH_BLOCK};
+    uint16_t words[16] = {9};
+    tolvendrum_hearing slave = frame(TOLVENDRUM_SLAVE, words, 16), master_frame = master(SIXTEEN_WORDS * 4096 + LONG_ADDRESS);
+    IS(tolvendrum_open(AREAS, LONG_ADDRESS, LONG_PORT, SIXTEEN_WORDS, TOLVENDRUM_SINK, 0), 0);
+    for (int k = 0; k < 4; k++) {
+        tolvendrum_hearing wrong = slave;
+        wrong.checks[k] ^= 1;
+        hear(hear(tolvendrum_reset(), master_frame).controller, wrong);
+        IS(port_words[LONG_FLAGS], TOLVENDRUM_PORT_SINK | TERR | CRC | marks[k]);
+    }
+    quiet(hear(tolvendrum_reset(), master_frame).controller, 64);
+    IS(port_words[LONG_FLAGS], TOLVENDRUM_PORT_SINK | TOLVENDRUM_PORT_STO);
+    hear(hear(tolvendrum_reset(), master_frame).controller, slave);
+    IS(port_words[LONG_FLAGS], TOLVENDRUM_PORT_SINK | TOLVENDRUM_PORT_EVER | TOLVENDRUM_PORT_VP);
+}
+
 int main(void)
 {
     hearings_and_ports();
+    blocks();
     exchange_and_times();
     lines_and_device();
     counts_and_groups();

@@ -119,6 +119,11 @@ def c_enum(pairs, form="%d"):
 
 REFUSALS = ("AREA", "RANGE", "NOPORT", "TAKEN", "SIDE", "DAMAGED")
 AREAS = ("INDEX", "PORTS", "PAGE")
+FLAGS = ("VP", "EVER", "SRC", "SINK", "STO", "TERR", "CRC", "SQE", "ALO", "FIRST_BLOCK", "SECOND_BLOCK", "THIRD_BLOCK", "FOURTH_BLOCK")
+FLAG_WORDS = (
+    "The bits of a port's word 1, for port p word 4p + 1 of `ports`: the valid page, whether it was ever filled, its side, and the status bits.",
+    "The last four say which blocks of an unsound reply had a wrong check byte, if its counts were right; CRC is set exactly if one is.",
+)
 
 
 def c_numbers():
@@ -126,6 +131,9 @@ def c_numbers():
     yield ""
     yield "/* The lengths of the areas, in words. All zero is a table of no ports. */"
     yield from c_enum([(name + "_LENGTH", value) for name, value in constants(AREAS, "constants", "src", "lib.rt")])
+    yield ""
+    yield "/* %s\n * %s */" % FLAG_WORDS
+    yield from c_enum([("PORT_" + name, value) for name, value in constants(FLAGS, "constants", "src", "lib.rt")], "0x%04x")
 
 
 def c_bits():
@@ -177,6 +185,12 @@ def rust_numbers():
     yield ""
     for name, value in constants(AREAS, "constants", "src", "lib.rt"):
         yield "pub const %s_LENGTH: usize = %d;" % (name, value)
+    yield ""
+    yield "/// %s\n/// %s" % FLAG_WORDS
+    yield "pub mod port {"
+    for name, value in constants(FLAGS, "constants", "src", "lib.rt"):
+        yield "    pub const %s: u16 = 0x%04x;" % (name, value)
+    yield "}"
 
 
 def rust_bits():

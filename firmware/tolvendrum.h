@@ -33,7 +33,7 @@
 #include <stdint.h>
 
 /* The version of this interface. docs/INTERFACE.md says when each number grows. */
-#define TOLVENDRUM_VERSION_MAJOR 1
+#define TOLVENDRUM_VERSION_MAJOR 2
 #define TOLVENDRUM_VERSION_MINOR 0
 
 #ifdef __cplusplus
@@ -61,6 +61,24 @@ enum {
     TOLVENDRUM_INDEX_LENGTH = 4096,
     TOLVENDRUM_PORTS_LENGTH = 1024,
     TOLVENDRUM_PAGE_LENGTH = 4096
+};
+
+/* The bits of a port's word 1, for port p word 4p + 1 of `ports`: the valid page, whether it was ever filled, its side, and the status bits.
+ * The last four say which blocks of an unsound reply had a wrong check byte, if its counts were right; CRC is set exactly if one is. */
+enum {
+    TOLVENDRUM_PORT_VP = 0x0001,
+    TOLVENDRUM_PORT_EVER = 0x0002,
+    TOLVENDRUM_PORT_SRC = 0x0004,
+    TOLVENDRUM_PORT_SINK = 0x0008,
+    TOLVENDRUM_PORT_STO = 0x0010,
+    TOLVENDRUM_PORT_TERR = 0x0020,
+    TOLVENDRUM_PORT_CRC = 0x0040,
+    TOLVENDRUM_PORT_SQE = 0x0080,
+    TOLVENDRUM_PORT_ALO = 0x0100,
+    TOLVENDRUM_PORT_FIRST_BLOCK = 0x0200,
+    TOLVENDRUM_PORT_SECOND_BLOCK = 0x0400,
+    TOLVENDRUM_PORT_THIRD_BLOCK = 0x0800,
+    TOLVENDRUM_PORT_FOURTH_BLOCK = 0x1000
 };
 /* end */
 

@@ -151,6 +151,24 @@ pub const DAMAGED: u16 = 6;
 pub const INDEX_LENGTH: usize = 4096;
 pub const PORTS_LENGTH: usize = 1024;
 pub const PAGE_LENGTH: usize = 4096;
+
+/// The bits of a port's word 1, for port p word 4p + 1 of `ports`: the valid page, whether it was ever filled, its side, and the status bits.
+/// The last four say which blocks of an unsound reply had a wrong check byte, if its counts were right; CRC is set exactly if one is.
+pub mod port {
+    pub const VP: u16 = 0x0001;
+    pub const EVER: u16 = 0x0002;
+    pub const SRC: u16 = 0x0004;
+    pub const SINK: u16 = 0x0008;
+    pub const STO: u16 = 0x0010;
+    pub const TERR: u16 = 0x0020;
+    pub const CRC: u16 = 0x0040;
+    pub const SQE: u16 = 0x0080;
+    pub const ALO: u16 = 0x0100;
+    pub const FIRST_BLOCK: u16 = 0x0200;
+    pub const SECOND_BLOCK: u16 = 0x0400;
+    pub const THIRD_BLOCK: u16 = 0x0800;
+    pub const FOURTH_BLOCK: u16 = 0x1000;
+}
 // end
 
 // from the crates: bits

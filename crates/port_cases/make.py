@@ -4,7 +4,7 @@
 usage: make.py            write the files, and say how many inputs there are and how each ends
        make.py --check    write nothing; exit with 1 where a file is not what would be written
 
-What must be printed is computed here from document 01's words alone, and from nothing of the other crates.
+What must be printed is computed here from the words of documents 01 and 02 alone, and from nothing of the other crates.
 """
 import os
 import random
@@ -58,10 +58,15 @@ class Port:
 
     def __init__(self, number, code, sink):
         self.number, self.code, self.sink = number, code, sink
-        self.words, self.fills, self.faulty = None, 0, False
+        self.words, self.fills, self.faulty, self.blocks = None, 0, False, 0
 
     def fill(self, words):
-        self.words, self.faulty, self.fills = words, False, (self.fills + 1) % 65536
+        self.words, self.fills = words, (self.fills + 1) % 65536
+        self.faulty, self.blocks = False, 0
+
+    def fail(self, blocks):
+        """No sound answer came; these blocks of it were wrong, lowest bit for the first."""
+        self.faulty, self.blocks = True, blocks
 
     def state(self):
         return "never" if self.words is None else "held" if self.faulty else "good"
@@ -120,10 +125,14 @@ class Program:
         port = self.port_for(word)
         if port is None or not port.sink:
             return
-        if len(words) == SIZES[word // 4096] and ends == checks(words):
-            port.fill(words)
+        size = SIZES[word // 4096]
+        right = checks(words)
+        if len(words) != size or len(ends) != len(right):
+            port.fail(0)
+        elif ends != right:
+            port.fail(sum(2 ** k for k in range(len(right)) if ends[k] != right[k]))
         else:
-            port.faulty = True
+            port.fill(words)
 
     def quiet(self, n):
         refuse(n > 65535, 2)
@@ -133,7 +142,7 @@ class Program:
                 port = self.port_for(self.waiting)
                 self.waiting = None
                 if port is not None and port.sink:
-                    port.faulty = True
+                    port.fail(0)
 
     # the text
 
@@ -171,7 +180,7 @@ class Program:
             p = self.ports[a]
             self.out.append("addr=%d\nfcode=%d\ndir=%s\nindex=%d\n" % (a, p.code, "sink" if p.sink else "source", p.number))
             data = "none" if p.words is None else commas(p.words)
-            self.out.append("state=%s\nfills=%d\ndata=%s\n" % (p.state(), p.fills, data))
+            self.out.append("state=%s\nfills=%d\nblocks=%d\ndata=%s\n" % (p.state(), p.fills, p.blocks, data))
 
 
 def number(text):
@@ -296,6 +305,29 @@ def held():
     yield "sixteen_words_wrong_block", SINKS + master(4 * 4096 + 14) + slave(list(range(16)), checks(list(range(15)) + [99]))
 
 
+def turned(words, *wrong):
+    """A slave frame with a bit of the check bytes of these blocks turned."""
+    return slave(words, [c ^ (2 ** k if k in wrong else 0) for k, c in enumerate(checks(words))])
+
+
+def blocks():
+    """Which block was bad: in a sink of F-code 4 that was filled once."""
+    words = list(range(16))
+    sink = port(14, 4, "sink", 14)
+    asked = master(4 * 4096 + 14)
+    filled = sink + asked + slave(words)
+    for name, wrong in (("1", [0]), ("2", [1]), ("3", [2]), ("4", [3]), ("1_and_3", [0, 2]), ("all", [0, 1, 2, 3])):
+        yield "block_%s_wrong" % name, filled + asked + turned(words, *wrong)
+    yield "block_of_word_9", filled + asked + slave(words[:9] + [9 ^ 64] + words[10:], checks(words))
+    yield "block_2_wrong_check_missing", filled + asked + slave(words, [checks(words)[0], 0] + checks(words)[2:3])
+    yield "block_1_wrong_eight_words", filled + asked + turned(words[:8], 0)
+    yield "blocks_cleared_by_fill", filled + asked + turned(words, 0, 3) + asked + slave(words)
+    yield "blocks_cleared_by_timeout", filled + asked + turned(words, 0, 3) + asked + "quiet=64\n"
+    yield "blocks_cleared_by_size", filled + asked + turned(words, 0, 3) + asked + slave(words[:8])
+    yield "blocks_replaced", filled + asked + turned(words, 0, 3) + asked + turned(words, 1)
+    yield "blocks_of_a_short_frame", SINKS + "".join(master(4096 * c + 10 + c) + turned(words[:SIZES[c]], 0, 1, 2, 3) for c in range(5))
+
+
 def replies():
     yield "reply", SOURCE + "write=2;0,1\n" + master(4098)
     writes = "".join("write=%d;%s\n" % (20 + c, commas([65535 - i for i in range(SIZES[c])])) for c in range(5))
@@ -404,7 +436,7 @@ def longest_lines():
 
 
 def cases():
-    for kind in (good, held, replies, refusals, malformed, long_runs, longest_lines):
+    for kind in (good, held, blocks, replies, refusals, malformed, long_runs, longest_lines):
         for name, text in kind():
             yield name, text.encode()
 

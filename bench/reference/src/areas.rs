@@ -13,7 +13,10 @@ pub const TERR: u16 = 1 << 5;
 pub const CRC: u16 = 1 << 6;
 pub const SQE: u16 = 1 << 7;
 pub const ALO: u16 = 1 << 8;
-pub const STATUS_BITS: u16 = STO | TERR | CRC | SQE | ALO;
+/// The marks of the blocks, bits 9 to 12: this is the first block's, and all four.
+pub const FIRST_BLOCK: u16 = 1 << 9;
+pub const BLOCKS: u16 = 15 * FIRST_BLOCK;
+pub const STATUS_BITS: u16 = STO | TERR | CRC | SQE | ALO | BLOCKS;
 pub const ZERO_BITS: u16 = !(VP | EVER | SRC | SINK | STATUS_BITS);
 
 #[derive(Clone, PartialEq, Debug)]

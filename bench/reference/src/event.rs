@@ -1,6 +1,6 @@
 //! What one bus event does.
 
-use crate::areas::{Areas, Port, ALO, CRC, EVER, SINK, SQE, SRC, TERR};
+use crate::areas::{Areas, Port, ALO, CRC, EVER, FIRST_BLOCK, SINK, SQE, SRC, TERR};
 use crate::controller::{Controller, Exchange};
 use crate::frames::{check_bytes, slave_size, Hearing, Kind};
 use crate::interrupts::{dti, DMF, DSF, EMF, ESF, SFC};
@@ -99,10 +99,11 @@ fn slave_while_waiting(c: &mut Controller, areas: &mut Areas, word: u16, heard: 
     } else {
         c.groups[0].raise(ESF);
         if let Some(port) = sink {
-            let crc = if heard.counts_right(size) && !heard.bytes_right() { CRC } else { 0 };
+            let wrong = heard.wrong_blocks(size);
+            let crc = if wrong != 0 { CRC } else { 0 };
             let sqe = if heard.sqe { SQE } else { 0 };
             let alo = if heard.alo { ALO } else { 0 };
-            areas.set_status_bits(port, TERR | crc | sqe | alo);
+            areas.set_status_bits(port, TERR | crc | sqe | alo | wrong * FIRST_BLOCK);
         }
         c.rule_1(Some(word >> 12));
     }

@@ -89,14 +89,19 @@ impl Hearing {
         size == Some(self.size) && self.ends == self.size.div_ceil(4)
     }
 
-    pub fn bytes_right(&self) -> bool {
-        let checks = self.words[..self.size].chunks(4).map(check_byte);
-        checks.eq(self.checks[..self.ends].iter().copied())
+    /// When counts are right, which blocks are wrong, lowest bit for the first; otherwise 0.
+    pub fn wrong_blocks(&self, size: Option<usize>) -> u16 {
+        if !self.counts_right(size) {
+            return 0;
+        }
+        let computed = self.words[..self.size].chunks(4).map(check_byte);
+        let wrong = computed.zip(self.checks).map(|(computed, heard)| computed != heard);
+        wrong.enumerate().map(|(k, wrong)| (wrong as u16) << k).sum()
     }
 
     /// Sound as a frame of that size; none is the size of a frame nobody expects.
     pub fn sound(&self, size: Option<usize>) -> bool {
         let marks = self.sqe || self.violation || self.alo;
-        !marks && self.counts_right(size) && self.bytes_right()
+        !marks && self.counts_right(size) && self.wrong_blocks(size) == 0
     }
 }

@@ -1,7 +1,7 @@
 //! The port program ("Numbers on either side"): it reads standard input, line by line, and prints as replies occur.
 //! Device address 0, no status word, no transfer interrupts.
 
-use reference::areas::SINK;
+use reference::areas::{BLOCKS, FIRST_BLOCK, SINK};
 use reference::refusal::{refuse_unless, TEXT};
 use reference::{ask, fetch, hear, open, quiet, write, Answer, Areas, Controller, Hearing, Kind};
 use std::io::{self, BufRead, BufReader, Read, Write};
@@ -167,7 +167,7 @@ impl Program {
         Ok(())
     }
 
-    /// After the last line: seven lines for each open port by rising address.
+    /// After the last line: eight lines for each open port by rising address.
     fn finish(&self, out: Output) -> Result<(), u16> {
         refuse_unless(self.setup.is_empty(), TEXT)?;
         for a in 0..4096u16 {
@@ -180,8 +180,9 @@ impl Program {
             let p = self.areas.index[a as usize];
             let port = &self.areas.ports[4 * p as usize..][..4];
             let dir = if port[1] & SINK != 0 { "sink" } else { "source" };
-            let (code, fills) = (port[0] >> 12, port[3]);
-            let head = format!("addr={a}\nfcode={code}\ndir={dir}\nindex={p}\nstate={state}\nfills={fills}\ndata=");
+            let (code, fills, blocks) = (port[0] >> 12, port[3], (port[1] & BLOCKS) / FIRST_BLOCK);
+            let head =
+                format!("addr={a}\nfcode={code}\ndir={dir}\nindex={p}\nstate={state}\nfills={fills}\nblocks={blocks}\ndata=");
             out.extend_from_slice(head.as_bytes());
             let data = fetch(&self.areas, a);
             if data.is_empty() {

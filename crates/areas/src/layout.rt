@@ -3,8 +3,9 @@
 ghost use mathlib.Core.Path.{_≡_};
 ghost use Prim.Native.Nat.{_≤_};
 ghost use lib.ListN.{getD, set};
-ghost use Rattle.model.specs.Layout.{areasFit, wordsAt, withWords, flagsOf, worth, wordOf};
+ghost use Rattle.model.specs.Layout.{areasFit, wordsAt, withWords, flagsOf, worth, marksNumber, wordOf};
 ghost use Rattle.areas.specs.Lent.{lent};
+use frames::Wrong;
 use logic::both;
 use model::Faults;
 use model::Flags;
@@ -64,16 +65,23 @@ pub fn put_port(ports: &mut [u16], p: u16, w: Words)
     put(ports, at + 3, w.fills);
 }
 
-// Word 1 taken apart; bits above ALO are not looked at.
+// Word 1 taken apart; bits above the marks of the blocks are not looked at.
 pub fn flags_of(x: u16) -> Flags
     ensures { λ r. ⌜ r ≡ flagsOf x ⌝ }
 {
+    let wrong = Wrong {
+        first: x / constants::FIRST_BLOCK % 2 == 1,
+        second: x / constants::SECOND_BLOCK % 2 == 1,
+        third: x / constants::THIRD_BLOCK % 2 == 1,
+        fourth: x / constants::FOURTH_BLOCK % 2 == 1,
+    };
     let faults = Faults {
         sto: x / constants::STO % 2 == 1,
         terr: x / constants::TERR % 2 == 1,
         crc: x / constants::CRC % 2 == 1,
         sqe: x / constants::SQE % 2 == 1,
         alo: x / constants::ALO % 2 == 1,
+        wrong,
     };
     Flags {
         vp: x / constants::VP % 2 == 1,
@@ -91,19 +99,32 @@ fn flag_part(b: bool, k: u16) -> u16
     if b { k } else { 0 }
 }
 
-// Word 1 put together; the bits above ALO are zero.
+// The marks of the blocks as a number, lowest bit for the first block.
+pub fn marks_number(w: Wrong) -> u16
+    ensures { λ r. ⌜ r ≡ marksNumber w ⌝ }
+{
+    flag_part(w.first, 1) + flag_part(w.second, 2) + flag_part(w.third, 4) + flag_part(w.fourth, 8)
+}
+
+// Word 1 put together; the bits above the marks of the blocks are zero.
 pub fn word_of(f: Flags) -> u16
     ensures { λ r. ⌜ r ≡ wordOf f ⌝ }
 {
     let s = f.faults;
+    let w = s.wrong;
     let sides = flag_part(f.vp, constants::VP)
         + flag_part(f.ever, constants::EVER)
         + flag_part(f.src, constants::SRC)
         + flag_part(f.sink, constants::SINK);
-    sides
+    let told = sides
         + flag_part(s.sto, constants::STO)
         + flag_part(s.terr, constants::TERR)
         + flag_part(s.crc, constants::CRC)
         + flag_part(s.sqe, constants::SQE)
-        + flag_part(s.alo, constants::ALO)
+        + flag_part(s.alo, constants::ALO);
+    told
+        + flag_part(w.first, constants::FIRST_BLOCK)
+        + flag_part(w.second, constants::SECOND_BLOCK)
+        + flag_part(w.third, constants::THIRD_BLOCK)
+        + flag_part(w.fourth, constants::FOURTH_BLOCK)
 }

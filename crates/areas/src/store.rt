@@ -6,6 +6,7 @@ ghost use mathlib.Core.List.{[]};
 ghost use Rattle.model.specs.Layout.{areas, wordsAt, withWords, withPart};
 ghost use Rattle.model.specs.Ports.{noFaults, turned, filledWords, markedWords, filled};
 use crate::layout;
+use frames::no_wrong;
 use model::Faults;
 use model::Flags;
 use model::Words;
@@ -46,6 +47,7 @@ pub fn no_faults() -> Faults
         crc: false,
         sqe: false,
         alo: false,
+        wrong: no_wrong(),
     }
 }
 

@@ -83,7 +83,7 @@ withIndex i o = record { refusal = o .refusal; reply = o .reply; world = world (
 bits-found : (m : Areas) (w : ℕ) (j : Judgement)
     → replyBits j (interruptAt (m .ports) (sinkOf (m .ports) (soughtFor (m .index) (m .ports) w))) ≡ raisedByReply m w j
 bits-found m w Sound = interrupt-found m w
-bits-found m w (Bad crc) = refl
+bits-found m w (Bad wrong) = refl
 
 -- the event by what was heard: the index table is asked for what is sought alone
 accepted-heard : (c : Controller) (m : Areas) (h : Heard) (t o : Hearing)

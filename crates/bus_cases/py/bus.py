@@ -1,5 +1,5 @@
-"""Bus events: exchanges, replies, unsound slave frames, counts, ranges."""
-from controller import Hearing
+"""Bus events: exchanges, replies, unsound slave frames, marks of blocks, counts, ranges."""
+from controller import BLOCKS, SINK, SRC, STATUS_BITS, Hearing
 from script import master, noise, silence, slave
 
 def exchanges(s):
@@ -152,10 +152,10 @@ def replies(s):
     s.event(slave(9))
     s.state()
     s.areas()
-    s.begin("A source with STO, TERR, CRC, SQE and ALO still replies")
+    s.begin("A source with every status bit set still replies")
     s.open(1, 1, 0, sink=False)
     s.write(1, 3)
-    s.word(5, s.world.ports[5] + 16 + 32 + 64 + 128 + 256)
+    s.word(5, s.world.ports[5] + STATUS_BITS)
     s.event(master(1))
     s.state()
     s.begin("Device status: unset, set, another address, another word; a status of 0 is a status")
@@ -238,6 +238,61 @@ def unsound_slaves(s):
         s.state()
     s.read(1)
     s.areas()
+
+
+def turned(frame, *blocks, **marks):
+    """The frame with a bit of the check bytes of these blocks turned, and these quality marks."""
+    checks = [check ^ (2**k if k in blocks else 0) for k, check in enumerate(frame.checks)]
+    return slave(*frame.words, checks=checks, **marks)
+
+
+def blocks(s):
+    """Which block was bad: the word 1 that stands beside each frame is the one that must be printed."""
+    s.begin("The marks of the blocks: a sink of F-code 4, filled once")
+    s.open(1, 1, 4)
+    word = 16385
+    good = slave(*range(16))
+    s.exchange(word, *good.words)
+    other = good.words[:]
+    other[9] ^= 64
+    for flags, frame in (
+        (0x026B, turned(good, 0)),
+        (0x106B, turned(good, 3)),
+        (0x0A6B, turned(good, 0, 2)),
+        (0x1E6B, turned(good, 0, 1, 2, 3)),
+        (0x086B, slave(*other, checks=good.checks)),
+        (0x04EB, turned(good, 1, sqe=True)),
+        (0x012B, turned(good, alo=True)),
+        (0x002B, slave(*good.words, checks=turned(good, 1).checks[:3])),
+        (0x002B, turned(slave(*range(8)), 0)),
+        (0x001B, None),
+        (0x1E6B, turned(good, 0, 1, 2, 3)),
+        (0x000A, good),
+    ):
+        s.event(master(word))
+        if frame is None:
+            s.quiet(64)
+        else:
+            s.event(frame)
+        s.port(1)
+        assert s.world.ports[5] == flags, "word 1 is %04X" % s.world.ports[5]
+    s.ask(1)
+    s.begin("A one-word sink that was never filled")
+    s.open(1, 1, 0)
+    s.event(master(1))
+    s.event(turned(slave(5), 0))
+    s.port(1)
+    assert s.world.ports[5] == 0x0268
+    s.read(1)
+    s.close(1)
+    s.open(1, 1, 0)
+    s.port(1)
+    assert s.world.ports[5] == SINK
+    s.begin("A write clears the marks of a source")
+    s.open(1, 1, 0, sink=False)
+    s.word(5, SRC + sum(BLOCKS))
+    s.write(1, 3)
+    s.port(1)
 
 
 def counts(s):
@@ -325,5 +380,6 @@ def run(s):
     exchanges(s)
     replies(s)
     unsound_slaves(s)
+    blocks(s)
     counts(s)
     ranges(s)

@@ -1,6 +1,6 @@
-"""A controller written from document 01, sentence by sentence, and from nothing of the crates that it is held against.
+"""A controller written from documents 01 and 02, sentence by sentence, and from nothing of the crates that it is held against.
 
-The quotations are document 01's. Bit times pass one by one, a refused call is undone whole, and nothing is made quick.
+The quotations are theirs. Bit times pass one by one, a refused call is undone whole, and nothing is made quick.
 """
 import functools
 import importlib.util
@@ -14,7 +14,12 @@ _SPEC.loader.exec_module(_VECTORS)
 
 # "bit 0 VP (valid page), 1 EVER, 2 SRC, 3 SINK, 4 STO, 5 TERR, 6 CRC, 7 SQE, 8 ALO; the others zero."
 VP, EVER, SRC, SINK, STO, TERR, CRC, SQE, ALO = (2**bit for bit in range(9))
-STATUS_BITS = STO | TERR | CRC | SQE | ALO
+# "the four marks go to bits 9 to 12 of port word 1, lowest bit for the first block"
+BLOCKS = [2**bit for bit in range(9, 13)]
+# "They count as status bits everywhere"
+STATUS_BITS = STO | TERR | CRC | SQE | ALO | sum(BLOCKS)
+# "Refusals: 6 now tests bits 13 to 15 only."
+ZERO_BITS = 2**13 | 2**14 | 2**15
 
 # "Group 0 from bit 15: EMF ESF DMF DSF AMFX MFC SFC RTI BTI DTI7 .. DTI1."
 EMF, ESF, DMF, DSF, AMFX, MFC, SFC, RTI, BTI = (2**bit for bit in range(15, 6, -1))
@@ -63,6 +68,12 @@ class Hearing:
     def counts_right(self, size):
         """ "the right size, the right number of check bytes" """
         return len(self.words) == size and len(self.checks) == (size + 3) // 4
+
+    def wrong_blocks(self, size):
+        """ "which of the up to four blocks are wrong", by their numbers from 0; "When counts are right [..]; otherwise they are zero." """
+        if not self.counts_right(size):
+            return []
+        return [k for k, right in enumerate(checks_of(self.words)) if self.checks[k] != right]
 
     def sound(self, size):
         """ "A frame is sound with no quality mark, the right size, the right number of check bytes and each byte right" """

@@ -1,5 +1,5 @@
 """The host's calls on ports and its settings."""
-from controller import ALO, CRC, EVER, SINK, SQE, SRC, STO, TERR
+from controller import ALO, BLOCKS, CRC, EVER, SINK, SQE, SRC, STO, TERR
 from script import master
 
 
@@ -106,8 +106,8 @@ def refusals(s):
 
 
 # What a port's words and entry may be damaged to, and what they may be changed to without damage.
-DAMAGED_FLAGS = [SRC | SINK, 0] + [SINK + 2**bit for bit in range(9, 16)]
-SOUND_FLAGS = [SRC, SINK, SRC | EVER, SINK | EVER | STO | TERR | CRC | SQE | ALO]
+DAMAGED_FLAGS = [SRC | SINK, 0] + [SINK + 2**bit for bit in range(13, 16)]
+SOUND_FLAGS = [SRC, SINK, SRC | EVER, SINK | EVER | STO | TERR | CRC | SQE | ALO | sum(BLOCKS)] + [SINK + block for block in BLOCKS]
 
 
 def damaged(s):
@@ -143,7 +143,7 @@ def damaged(s):
 
 def reading(s):
     s.begin("Asking and fetching: never, good and held")
-    for bits in (0, STO, TERR, CRC, SQE, ALO, STO | TERR):
+    for bits in (0, STO, TERR, CRC, SQE, ALO, sum(BLOCKS), STO | TERR):
         for ever in (0, EVER):
             s.open(1, 1, 0, sink=False)
             if ever:

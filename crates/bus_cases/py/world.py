@@ -1,8 +1,8 @@
-"""The controller with the four lent areas: the host's calls on ports, bus events and quiet time, from document 01 as controller.py is."""
+"""The controller with the four lent areas: the host's calls on ports, bus events and quiet time, from the documents as controller.py is."""
 import copy
 
 from controller import BTI, BUS_TIMEOUT, CRC, DMF, DSF, EMF, ESF, EVER, LINE_TIMEOUT, REPLY_TIMES, RTI, SFC, SINK, SIZES, SQE, SRC
-from controller import ALO, STATUS_BITS, STO, TERR, VP, Controller, checks_of
+from controller import ALO, BLOCKS, STATUS_BITS, STO, TERR, VP, ZERO_BITS, Controller, checks_of
 
 AREA, RANGE, NOPORT, TAKEN, SIDE, DAMAGED = 1, 2, 3, 4, 5, 6
 
@@ -52,7 +52,7 @@ class World:
         bits are zero, and word 2 is at most 7." """
         master, flags, interrupt, _ = self.ports[4 * port : 4 * port + 4]
         one_side = bool(flags & SRC) != bool(flags & SINK)
-        return master // 4096 <= 4 and master % 4096 == address and one_side and flags < 512 and interrupt <= 7
+        return master // 4096 <= 4 and master % 4096 == address and one_side and not flags & ZERO_BITS and interrupt <= 7
 
     def port_at(self, address):
         """The port number of an address, 0 for none. Damage is refused."""
@@ -212,8 +212,9 @@ class World:
             return False
         c.raise_bit(ESF)
         if sink:
-            wrong = frame.counts_right(SIZES[code]) and frame.checks != checks_of(frame.words)
-            self.mark(sink, TERR | (CRC if wrong else 0) | (SQE if frame.sqe else 0) | (ALO if frame.alo else 0))
+            wrong = frame.wrong_blocks(SIZES[code])
+            bits = TERR | (CRC if wrong else 0) | (SQE if frame.sqe else 0) | (ALO if frame.alo else 0)
+            self.mark(sink, bits | sum(BLOCKS[k] for k in wrong))
         return c.line_rule_1(code)
 
     def stray_slave(self):

@@ -16,7 +16,7 @@ use Rattle.model.specs.Event.{when, waitsFor, isDone, transferBit}
 -- ESF for an unsound reply, else the interrupt
 abbrev pub replyBits : Judgement → ℕ → List ℕ
 replyBits Sound i = transferBit i
-replyBits (Bad crc) i = ESF ∷ []
+replyBits (Bad wrong) i = ESF ∷ []
 
 abbrev pub bits0 : Exchange → Times → Heard → ℕ → List ℕ
 bits0 x t Nothing i = []

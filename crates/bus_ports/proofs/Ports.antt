@@ -129,4 +129,4 @@ pub taken-apart : (i : List ℕ) (m : Areas) (v : Option Standing) (j : Judgemen
 unfolding apply filled
 taken-apart i m none j h = refl
 taken-apart i m (some v) Sound h = refl
-taken-apart i m (some v) (Bad crc) h = refl
+taken-apart i m (some v) (Bad wrong) h = refl

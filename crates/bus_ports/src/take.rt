@@ -10,6 +10,9 @@ ghost use Rattle.bus_ports.specs.Found.{standingAt, lateAt, effectBy};
 use areas::store;
 use frames::Hearing;
 use frames::Judgement;
+use frames::Wrong;
+use frames::any_wrong;
+use frames::no_wrong;
 use logic::least;
 use model::Faults;
 use model::Heard;
@@ -26,16 +29,17 @@ fn fill_heard(ports: &mut [u16], page0: &mut [u16], page1: &mut [u16], p: u16, h
     store::fill(ports, page0, page1, p, &words[..n]);
 }
 
-// TERR set, STO clear, CRC, SQE and ALO as told.
-fn bad(crc: bool, h: Hearing) -> Faults
-    ensures { λ r. ⌜ r ≡ replyBad crc (h .sqe) (h .alo) ⌝ }
+// TERR set, STO clear, the blocks marked that are wrong, CRC exactly if one is, SQE and ALO as heard.
+fn bad(wrong: Wrong, h: Hearing) -> Faults
+    ensures { λ r. ⌜ r ≡ replyBad wrong (h .sqe) (h .alo) ⌝ }
 {
     Faults {
         sto: false,
         terr: true,
-        crc,
+        crc: any_wrong(wrong),
         sqe: h.sqe,
         alo: h.alo,
+        wrong,
     }
 }
 
@@ -49,6 +53,7 @@ fn late() -> Faults
         crc: false,
         sqe: false,
         alo: false,
+        wrong: no_wrong(),
     }
 }
 
@@ -69,7 +74,7 @@ fn store_reply(
 {
     match j {
         Judgement::Sound => fill_heard(ports, page0, page1, p, h),
-        Judgement::Unsound(crc) => store::mark(ports, p, bad(crc, h)),
+        Judgement::Unsound(wrong) => store::mark(ports, p, bad(wrong, h)),
     }
 }
 

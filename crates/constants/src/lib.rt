@@ -57,7 +57,7 @@ pub const CODE_UNIT: u16 = 4096;
 // Fills are counted modulo 65,536.
 pub const FILLS: u32 = 65536;
 
-// The weights of the flags in word 1, and of the first bit that is always zero.
+// The weights of the flags in word 1: the sides, the status bits, among them the marks of the blocks, and the first bit that is always zero.
 pub const VP: u16 = 1;
 
 pub const EVER: u16 = 2;
@@ -76,4 +76,12 @@ pub const SQE: u16 = 128;
 
 pub const ALO: u16 = 256;
 
-pub const ZERO_BITS: u16 = 512;
+pub const FIRST_BLOCK: u16 = 512;
+
+pub const SECOND_BLOCK: u16 = 1024;
+
+pub const THIRD_BLOCK: u16 = 2048;
+
+pub const FOURTH_BLOCK: u16 = 4096;
+
+pub const ZERO_BITS: u16 = 8192;

@@ -1,6 +1,6 @@
 -- Laws of the judgement, by the outcomes of its tests. Assumes nothing.
 use mathlib.Core.Path.{_≡_, refl}
-use mathlib.Core.Bool.{Bool, true, false, _||_}
+use mathlib.Core.Bool.{Bool, true, false, _||_, true≢false}
 use mathlib.Core.List.{List}
 use Prim.Native.Nat.{ℕ}
 use borrow.Author.Tests.{eq-eqb, ne-eqb, leb-false, lt-ltb}
@@ -8,33 +8,39 @@ use lib.Dec.{leb, eqb}
 use lib.ListN.{length, getD}
 use Rattle.sequence.specs.Frame.{blocks, checkAt, byteAt}
 use Rattle.frames.specs.declared.Hearing.{Hearing}
-use Rattle.frames.specs.declared.Judgement.the-variants.{Unsound}
+use Rattle.frames.specs.declared.Wrong.{Wrong}
+use Rattle.frames.specs.declared.Judgement.the-variants.{Sound, Unsound}
 use Rattle.frames.specs.Hearing.{wordsOf, marked}
-use Rattle.frames.specs.Judge.{countsRight, rightAt, checksRight, verdict, judged}
+use Rattle.frames.specs.Judge.{countsRight, rightAt, wrongOf, noWrong, anyWrong, verdict, judged}
 
--- wrong counts are no CRC, whatever the marks and the check bytes
-wrong : (marks counts checks : Bool) → counts ≡ false → Unsound false ≡ verdict marks counts checks
-wrong true counts checks e = rw e
-wrong false counts checks e = rw e
+-- with wrong counts no block is marked, whatever the quality marks and the check bytes
+wrong-counts : (marks : Bool) {counts : Bool} (wrong : Wrong) → counts ≡ false → Unsound noWrong ≡ verdict marks counts wrong
+wrong-counts true wrong e = rw e
+wrong-counts false wrong e = rw e
 
--- with the right counts a wrong check byte is CRC, whatever the marks
-pub ends-wrong : (marks : Bool) {checks : Bool} → checks ≡ false → Unsound true ≡ verdict marks true checks
-ends-wrong true e = rw e
-ends-wrong false e = rw e
+-- with the right counts a quality mark or a wrong block makes a frame unsound, and the blocks are marked as they are
+pub at-fault : (marks : Bool) (wrong : Wrong) → (marks || anyWrong wrong) ≡ true → Unsound wrong ≡ verdict marks true wrong
+at-fault true wrong e = refl
+at-fault false wrong e = rw e
+
+-- with the right counts and neither of these it is sound
+pub faultless : (marks : Bool) (wrong : Wrong) → (marks || anyWrong wrong) ≡ false → Sound ≡ verdict marks true wrong
+faultless true wrong e = absurd (true≢false e)
+faultless false wrong e = rw e
 
 module _ (n : ℕ) (h : Hearing) where
-  -- a frame of another size is unsound, and no CRC
-  pub wrong-size : (h .size ≡ n → ⊥) → Unsound false ≡ judged n h
+  -- a frame of another size is unsound, and no block is marked
+  pub wrong-size : (h .size ≡ n → ⊥) → Unsound noWrong ≡ judged n h
   unfolding judged countsRight
-  wrong-size d = wrong (marked h) (countsRight n h) (checksRight (wordsOf h) (h .checks)) (rw (ne-eqb _ _ d))
+  wrong-size d = wrong-counts (marked h) (wrongOf (wordsOf h) (h .checks)) (rw (ne-eqb _ _ d))
 
   -- so is one of the right size with another number of check bytes
-  pub wrong-ends : h .size ≡ n → (h .ends ≡ blocks n → ⊥) → Unsound false ≡ judged n h
+  pub wrong-ends : h .size ≡ n → (h .ends ≡ blocks n → ⊥) → Unsound noWrong ≡ judged n h
   unfolding judged countsRight
-  wrong-ends e d = wrong (marked h) (countsRight n h) (checksRight (wordsOf h) (h .checks)) (rw (eq-eqb _ _ e, ne-eqb _ _ d))
+  wrong-ends e d = wrong-counts (marked h) (wrongOf (wordsOf h) (h .checks)) (rw (eq-eqb _ _ e, ne-eqb _ _ d))
 
-  -- with the right counts the marks and the check bytes decide
-  pub right-counts : h .size ≡ n → h .ends ≡ blocks n → verdict (marked h) true (checksRight (wordsOf h) (h .checks)) ≡ judged n h
+  -- with the right counts the quality marks and the check bytes decide
+  pub right-counts : h .size ≡ n → h .ends ≡ blocks n → verdict (marked h) true (wrongOf (wordsOf h) (h .checks)) ≡ judged n h
   unfolding judged countsRight
   right-counts e d = rw (eq-eqb _ _ e, eq-eqb _ _ d)
 

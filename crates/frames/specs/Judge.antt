@@ -1,13 +1,14 @@
 -- Document 01, "What one bus event does": a frame is sound with no quality mark, the right size, the right number of check bytes and
--- each byte right. Assumes nothing.
+-- each byte right. Document 02, W-206: which of its blocks are wrong. Assumes nothing.
 use mathlib.Core.Option.{Option, none, some}
 use Prim.Native.Nat.{ℕ}
 use mathlib.Core.Bool.{Bool, true, false, cond, not, _&&_, _||_}
-use mathlib.Core.List.{List}
+use mathlib.Core.List.{List, [], _∷_}
 use lib.Dec.{eqb, leb}
 use lib.ListN.{length, getD}
 use Rattle.sequence.specs.Frame.{blocks, checkAt}
 use Rattle.frames.specs.declared.Hearing.{Hearing}
+use Rattle.frames.specs.declared.Wrong.{Wrong}
 use Rattle.frames.specs.declared.Judgement.{Judgement}
 use Rattle.frames.specs.declared.Judgement.the-variants.{Sound, Unsound}
 use Rattle.frames.specs.Hearing.{wordsOf, marked}
@@ -25,17 +26,45 @@ rightAt ws cs k = leb (blocks (length ws)) k || eqb (getD cs k 0) (checkAt ws k)
 unfoldable pub checksRight : List ℕ → List ℕ → Bool
 checksRight ws cs = rightAt ws cs 0 && rightAt ws cs 1 && rightAt ws cs 2 && rightAt ws cs 3
 
--- sound: no quality mark, counts right and checks right; else CRC tells that counts are right and a check byte is wrong
-abbrev pub verdict : Bool → Bool → Bool → Judgement
-verdict marks counts checks = cond (not marks && counts && checks) Sound (Unsound (counts && not checks))
+-- ---- which of the up to four blocks are wrong
+
+-- the check byte of block k is wrong
+unfoldable pub wrongAt : List ℕ → List ℕ → ℕ → Bool
+wrongAt ws cs k = not (rightAt ws cs k)
+
+-- a mark for each block
+unfoldable pub wrongOf : List ℕ → List ℕ → Wrong
+wrongOf ws cs = record { first = wrongAt ws cs 0; second = wrongAt ws cs 1; third = wrongAt ws cs 2; fourth = wrongAt ws cs 3 }
+
+abbrev pub noWrong : Wrong
+noWrong = record { first = false; second = false; third = false; fourth = false }
+
+-- a block is marked
+abbrev pub anyWrong : Wrong → Bool
+anyWrong w = w .first || w .second || w .third || w .fourth
+
+-- the mark of each block, the first block's first
+abbrev pub inOrder : Wrong → List Bool
+inOrder w = w .first ∷ w .second ∷ w .third ∷ w .fourth ∷ []
+
+-- ---- the judgement
+
+-- sound: no quality mark, counts right and no block wrong; else the marks of the blocks when counts are right, otherwise none
+abbrev pub verdict : Bool → Bool → Wrong → Judgement
+verdict marks counts wrong = cond (not marks && counts && not (anyWrong wrong)) Sound (Unsound (cond counts wrong noWrong))
 
 abbrev pub isSound : Judgement → Bool
 isSound Sound = true
-isSound (Unsound crc) = false
+isSound (Unsound wrong) = false
+
+-- the blocks that a judgement calls wrong
+abbrev pub wrongIn : Judgement → Wrong
+wrongIn Sound = noWrong
+wrongIn (Unsound wrong) = wrong
 
 -- a frame that is to have n words
 unfoldable pub judged : ℕ → Hearing → Judgement
-judged n h = verdict (marked h) (countsRight n h) (checksRight (wordsOf h) (h .checks))
+judged n h = verdict (marked h) (countsRight n h) (wrongOf (wordsOf h) (h .checks))
 
 -- a master frame is one word and one check byte
 unfoldable pub judgedMaster : Hearing → Judgement
@@ -44,7 +73,7 @@ judgedMaster h = judged 1 h
 -- a slave frame is sized by what is expected, and never by its own length; where nothing is expected no frame is sound
 abbrev pub judgedFor : Option ℕ → Hearing → Judgement
 judgedFor (some n) h = judged n h
-judgedFor none h = Unsound false
+judgedFor none h = Unsound noWrong
 
 -- for slaves the size comes from the waiting F-code
 unfoldable pub judgedSlave : ℕ → Hearing → Judgement

@@ -7,12 +7,12 @@
 use logic::both;
 use logic::either;
 ghost use mathlib.Core.Path.{_≡_};
-ghost use mathlib.Core.Bool.{true, _||_};
+ghost use mathlib.Core.Bool.{true, not, _||_};
 ghost use lib.Dec.{eqb, leb};
 ghost use Prim.Native.Nat.{_≤_};
 ghost use Rattle.frames.specs.Hearing.{inRange, marked};
 ghost use Rattle.frames.specs.Size.{wordsSaid, expectedOf};
-ghost use Rattle.frames.specs.Judge.{checksRight, verdict, judged, judgedMaster, judgedSlave};
+ghost use Rattle.frames.specs.Judge.{wrongOf, noWrong, anyWrong, verdict, judged, judgedMaster, judgedSlave};
 
 // What was heard in an event.
 pub enum Kind {
@@ -41,10 +41,18 @@ pub enum Expected {
     NoReply,
 }
 
-// A frame is sound, or it is not: then the mark says that the counts were right and a check byte was wrong (CRC).
+// Which of the up to four blocks of a frame are wrong.
+pub struct Wrong {
+    pub first: bool,
+    pub second: bool,
+    pub third: bool,
+    pub fourth: bool,
+}
+
+// A frame is sound, or it is not: then the blocks with a wrong check byte are marked if the counts were right, and none otherwise.
 pub enum Judgement {
     Sound,
-    Unsound(bool),
+    Unsound(Wrong),
 }
 
 // A hearing has at most 16 words and 4 check bytes.
@@ -79,42 +87,55 @@ fn is_marked(h: Hearing) -> bool
     either(either(h.sqe, h.violation), h.alo)
 }
 
-// Block k is right: of `count` blocks there is no such, or the byte that was given is the computed one.
-fn is_right(count: usize, k: usize, given: u8, computed: u8) -> bool
-    ensures { λ r. ⌜ r ≡ (leb count k || eqb given computed) ⌝ }
+// Block k is wrong: of `count` blocks there is such a one, and the byte that was given is not the computed one.
+fn is_wrong(count: usize, k: usize, given: u8, computed: u8) -> bool
+    ensures { λ r. ⌜ r ≡ not (leb count k || eqb given computed) ⌝ }
 {
-    either(count <= k, given == computed)
+    !either(count <= k, given == computed)
 }
 
-// Each check byte is right.
-fn checks_right(words: &[u16], checks: [u8; 4]) -> bool
-    ensures { λ r. ⌜ r ≡ checksRight (now (words .entry)) checks ⌝ }
+// Which blocks are wrong, each by its own check byte.
+fn wrong_blocks(words: &[u16], checks: [u8; 4]) -> Wrong
+    ensures { λ r. ⌜ r ≡ wrongOf (now (words .entry)) checks ⌝ }
 {
     let f = sequence::frame_checks(words);
     let n = f.count;
     let bytes = f.bytes;
-    let first = both(
-        is_right(n, 0, checks[0], bytes[0]),
-        is_right(n, 1, checks[1], bytes[1]),
-    );
-    both(
-        both(first, is_right(n, 2, checks[2], bytes[2])),
-        is_right(n, 3, checks[3], bytes[3]),
-    )
+    Wrong {
+        first: is_wrong(n, 0, checks[0], bytes[0]),
+        second: is_wrong(n, 1, checks[1], bytes[1]),
+        third: is_wrong(n, 2, checks[2], bytes[2]),
+        fourth: is_wrong(n, 3, checks[3], bytes[3]),
+    }
+}
+
+// No block is wrong.
+pub fn no_wrong() -> Wrong
+    ensures { λ r. ⌜ r ≡ noWrong ⌝ }
+{
+    Wrong {
+        first: false,
+        second: false,
+        third: false,
+        fourth: false,
+    }
+}
+
+// A block is wrong.
+pub fn any_wrong(w: Wrong) -> bool
+    ensures { λ r. ⌜ r ≡ anyWrong w ⌝ }
+{
+    either(either(either(w.first, w.second), w.third), w.fourth)
 }
 
 // What is said of a frame with the right counts.
-fn tell(marks: bool, checks: bool) -> Judgement
-    ensures { λ r. ⌜ r ≡ verdict marks true checks ⌝ }
+fn tell(marks: bool, wrong: Wrong) -> Judgement
+    ensures { λ r. ⌜ r ≡ verdict marks true wrong ⌝ }
 {
-    if checks {
-        if marks {
-            Judgement::Unsound(false)
-        } else {
-            Judgement::Sound
-        }
+    if either(marks, any_wrong(wrong)) {
+        Judgement::Unsound(wrong)
     } else {
-        Judgement::Unsound(true)
+        Judgement::Sound
     }
 }
 
@@ -125,16 +146,16 @@ fn judge(h: Hearing, n: usize) -> Judgement
 {
     let size = h.size;
     if size != n {
-        return Judgement::Unsound(false);
+        return Judgement::Unsound(no_wrong());
     }
     let ends = sequence::block_count(n);
     if h.ends != ends {
-        return Judgement::Unsound(false);
+        return Judgement::Unsound(no_wrong());
     }
     let words = h.words;
     let checks = h.checks;
-    let right = checks_right(&words[..size], checks);
-    tell(is_marked(h), right)
+    let wrong = wrong_blocks(&words[..size], checks);
+    tell(is_marked(h), wrong)
 }
 
 // A master frame is one word and one check byte.
@@ -150,6 +171,6 @@ pub fn judge_slave(code: u16, h: Hearing) -> Judgement
 {
     match reply_size(code) {
         Expected::Words(n) => judge(h, n),
-        Expected::NoReply => Judgement::Unsound(false),
+        Expected::NoReply => Judgement::Unsound(no_wrong()),
     }
 }

@@ -12,10 +12,11 @@ use lib.Seq.{length-take-le}
 use borrow.Author.Tests.{eqb-true, eqb-false, ltb-false, ne-eqb, le-leb, not-false}
 use Rattle.frames.specs.declared.Hearing.{Hearing}
 use Rattle.frames.specs.declared.Judgement.{Judgement}
+use Rattle.frames.specs.declared.Wrong.{Wrong}
 use Rattle.frames.specs.declared.Judgement.the-variants.{Sound, Unsound as Bad}
 use Rattle.frames.specs.Hearing.{wordsOf, marked}
 use Rattle.frames.specs.Size.{expectedOf}
-use Rattle.frames.specs.Judge.{countsRight, verdict, judged, judgedFor, judgedSlave}
+use Rattle.frames.specs.Judge.{countsRight, wrongOf, verdict, judged, judgedFor, judgedSlave}
 use Rattle.frames.proofs.Sizes.{longest}
 use Rattle.model.specs.Layout.{Areas, entry, portAt}
 use Rattle.model.specs.Ports.{codeOf, addressOf, hasPorts, wordsIn, sizeOf, wellFormed, seek, Standing, standingOf, standing, fill}
@@ -164,7 +165,7 @@ sound-size : (code : ℕ) (h : Hearing) → length (h .words) ≡ 16 → judgedS
 unfolding judgedSlave judged countsRight wordsOf sizeOf
 sound-size code h l e = go (expectedOf code) refl e
   where
-    sized : (n : ℕ) → n ≤ 16 → (b c k : Bool) → eqb (h .size) n ≡ b → verdict (marked h) (b && c) k ≡ Sound → length (wordsOf h) ≡ n
+    sized : (n : ℕ) → n ≤ 16 → (b c : Bool) (k : Wrong) → eqb (h .size) n ≡ b → verdict (marked h) (b && c) k ≡ Sound → length (wordsOf h) ≡ n
     sized n fits true c k eb ej =
         let s : h .size ≡ n = eqb-true _ _ eb in
         length-take-le (h .size) (h .words) (omega arith) ∙ s
@@ -175,7 +176,7 @@ sound-size code h l e = go (expectedOf code) refl e
         never false ej = let z : _≡_ {A = ℕ} 0 1 = cc in omega arith
 
     go : (x : Option ℕ) → expectedOf code ≡ x → judgedFor x h ≡ Sound → length (wordsOf h) ≡ wordsIn x
-    go (some n) ex ej = sized n (longest code n ex) _ _ _ refl ej
+    go (some n) ex ej = sized n (longest code n ex) _ _ (wrongOf (wordsOf h) (h .checks)) refl ej
     go none ex ej = let z : _≡_ {A = ℕ} 0 1 = cc in omega arith
 
 -- what a judged slave frame does to the areas is valid
@@ -186,4 +187,4 @@ valid-taken m w h j l e = go (sinkFor m w) refl j e
     go : (o : Option Standing) → sinkFor m w ≡ o → (j : Judgement) → judgedSlave (codeOf w) h ≡ j → Valid m (taken o j h)
     go none eo j ej = nothing
     go (some v) eo Sound ej = filling (sink-at m w v eo) (sound-size (codeOf w) h l ej)
-    go (some v) eo (Bad crc) ej = marking (sink-at m w v eo)
+    go (some v) eo (Bad wrong) ej = marking (sink-at m w v eo)

@@ -54,7 +54,7 @@ module _ (s : World) (a b : Hearing) where
         where
           judged : (j : Judgement) → judgedMaster heardOn ≡ j → answerOf (s .controller .device) (s .areas) (asMaster j heardOn) ≡ none
           judged Sound ej = absurd (n (record { kind = e; sound = ej }))
-          judged (Bad crc) ej = refl
+          judged (Bad wrong) ej = refl
       by SlaveFrame e Idle = refl
       by SlaveFrame e (Waiting w) = refl
       by SlaveFrame e Done = refl
@@ -88,7 +88,7 @@ module _ (s : World) (a b : Hearing) where
         where
           judged : (j : Judgement) → Took (λ w. false) (s .areas) heardOn (effectOf (s .areas) (asMaster j heardOn) heardOn)
           judged Sound = spares still (λ c v e k. refl)
-          judged (Bad crc) = spares still (λ c v e k. refl)
+          judged (Bad wrong) = spares still (λ c v e k. refl)
       by SlaveFrame Idle = spares still (λ c v e k. refl)
       by SlaveFrame Done = spares still (λ c v e k. refl)
       by SlaveFrame (Waiting w) = waiting-took (s .areas) heardOn w

@@ -40,7 +40,7 @@ all-else-harmless o h m r = by (h .kind) refl o refl
   where
     unsound : (j : Judgement) → (j ≡ Sound → ⊥) → not (isSound j) ≡ true
     unsound Sound n = absurd (n refl)
-    unsound (Unsound crc) n = refl
+    unsound (Unsound wrong) n = refl
 
     by : (k : Kind) → h .kind ≡ k → (p : Option ℕ) → o ≡ p → harmless k p h ≡ true
     by Silence e p q = refl

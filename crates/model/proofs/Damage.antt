@@ -69,7 +69,7 @@ gentle-heard m t h MasterFrame x l e = go (judgedMaster h)
   where
     go : (j : Judgement) → Gentle (effectOf m (asMaster j h) h)
     go Sound = still
-    go (Bad crc) = still
+    go (Bad wrong) = still
 gentle-heard m t h SlaveFrame Idle l e = still
 gentle-heard m t h SlaveFrame Done l e = still
 gentle-heard m t h SlaveFrame (Waiting w) l e =
@@ -78,7 +78,7 @@ gentle-heard m t h SlaveFrame (Waiting w) l e =
     go : (o : Option Standing) (j : Judgement) → not (isSound j) ≡ true → Gentle (taken o j h)
     go none j e = still
     go (some v) Sound e = absurd (false≢true e)
-    go (some v) (Bad crc) e = marks
+    go (some v) (Bad wrong) e = marks
 
 -- the last mark counts
 marked-twice : (w : Words) (x y : Faults) → markedWords (markedWords w x) y ≡ markedWords w y

@@ -14,7 +14,7 @@ use Rattle.frames.specs.declared.Kind.the-variants.{Master, Slave}
 use Rattle.frames.specs.declared.Hearing.{Hearing}
 use Rattle.frames.specs.Hearing.{wordsOf}
 use Rattle.frames.specs.Size.{sizes, expectedOf}
-use Rattle.frames.specs.Judge.{countsRight, rightAt, checksRight, judged, judgedMaster, judgedSlave}
+use Rattle.frames.specs.Judge.{countsRight, rightAt, wrongAt, wrongOf, judged, judgedMaster, judgedSlave}
 use Rattle.model.specs.Layout.{areasFit, wordsAt, withWords, portAt, bitAt, flagsOf, wordOf, zeroBits}
 use Rattle.model.specs.Ports.{wellFormed, seek, standingOf, standing, openWords, markedWords, apply}
 use Rattle.model.specs.Lines.{rule1, rule2, rule3, rule4, rule5}
@@ -56,7 +56,8 @@ again = asks ∷ []
 abbrev later : List Call
 later = quiet 64 ∷ again
 
--- the words 1 of the port with and without the slave frame: TERR and CRC are set in the one run alone, then STO alone in both
+-- the words 1 of the port with and without the slave frame: TERR, CRC and the first block's mark are set in the one run alone, then STO alone
+-- in both
 pub record Case : Type 0 where
   -- the run is accepted, and the slave frame is damage
   pub run : Accepted (later ++ (wrong ∷ before))
@@ -65,8 +66,8 @@ pub record Case : Type 0 where
   pub waits : waitingAddress before ≡ some 1
   pub doubt : doubtful before (waitingAddress before) again ≡ some 1
   pub settled : doubtful before (waitingAddress before) later ≡ none
-  -- word 1 after the master frame: SINK, TERR and CRC with the slave frame, SINK alone without it
-  pub with-it : portAt (after (again ++ (wrong ∷ before)) .areas) 1 .flags ≡ 104
+  -- word 1 after the master frame: SINK, TERR, CRC and the mark with the slave frame, SINK alone without it
+  pub with-it : portAt (after (again ++ (wrong ∷ before)) .areas) 1 .flags ≡ 616
   pub without : portAt (after (again ++ before) .areas) 1 .flags ≡ 8
   -- word 1 after the reply time: SINK and STO in both runs
   pub with-it-later : portAt (after (later ++ (wrong ∷ before)) .areas) 1 .flags ≡ 24
@@ -74,7 +75,7 @@ pub record Case : Type 0 where
 
 -- The case holds: both runs are computed.
 pub case : Case
-unfolding waitingAddress finishes doubtful awaited after step event hearController heardBy heard judgedMaster judgedSlave judged countsRight checksRight rightAt checkAt checkOf rest pushes push onesOf ones blocks wordsOf expectedOf sizes replyTold openingOf writesSince effect hearEffect start freshController clearedAreas areasFit wordsAt withWords bitAt flagsOf wordOf zeroBits wellFormed seek standingOf standing openWords markedWords apply rule1 rule2 rule3 rule4 rule5 portFor answerTo exchangeFor tickEffect tickController tick ticks refusal dueWithin lastSettings
+unfolding waitingAddress finishes doubtful awaited after step event hearController heardBy heard judgedMaster judgedSlave judged countsRight wrongOf wrongAt rightAt checkAt checkOf rest pushes push onesOf ones blocks wordsOf expectedOf sizes replyTold openingOf writesSince effect hearEffect start freshController clearedAreas areasFit wordsAt withWords bitAt flagsOf wordOf zeroBits wellFormed seek standingOf standing openWords markedWords apply rule1 rule2 rule3 rule4 rule5 portFor answerTo exchangeFor tickEffect tickController tick ticks refusal dueWithin lastSettings
 case =
     record {
       run = (tt, refl, ((refl, refl), refl, ((refl, refl), refl, ((refl, refl), refl, (tt, refl, tt)))));

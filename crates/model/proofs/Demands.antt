@@ -203,7 +203,7 @@ module _ (past : List Call) (run : Accepted past) where
         by Silence e j ej = other (λ f. let z : _≡_ {A = ℕ} 0 1 = cc in omega arith)
         by Noise e j ej = other (λ f. let z : _≡_ {A = ℕ} 0 1 = cc in omega arith)
         by MasterFrame e Sound ej = reply-exact (record { kind = e; sound = ej })
-        by MasterFrame e (Bad crc) ej = no-other-reply (λ m. let z : _≡_ {A = ℕ} 0 1 = cc (m .sound) in omega arith)
+        by MasterFrame e (Bad wrong) ej = no-other-reply (λ m. let z : _≡_ {A = ℕ} 0 1 = cc (m .sound) in omega arith)
         by SlaveFrame e j ej = other (λ f. let z : _≡_ {A = ℕ} 0 1 = cc in omega arith)
 
     -- and the line hears it as a slave frame of these words, or silence

@@ -93,7 +93,7 @@ missed-port (some v) = refl
 taken-port : (o : Option Standing) (j : Judgement) (h : Hearing) → portAffected (taken o j h) ≡ portIn o
 taken-port none j h = refl
 taken-port (some v) Sound h = refl
-taken-port (some v) (Bad crc) h = refl
+taken-port (some v) (Bad wrong) h = refl
 
 -- a slave frame that is judged concerns the sink whose word is waited for, and no other frame concerns a port
 pub heard-port : (m : Areas) (h : Hearing) (k : Kind) (x : Exchange) (t : Times) → Live x t
@@ -104,7 +104,7 @@ heard-port m h MasterFrame x t l = go (judgedMaster h)
   where
     go : (j : Judgement) → portAffected (effectOf m (asMaster j h) h) ≡ none
     go Sound = refl
-    go (Bad crc) = refl
+    go (Bad wrong) = refl
 heard-port m h SlaveFrame Idle t l = refl
 heard-port m h SlaveFrame Done t l = refl
 heard-port m h SlaveFrame (Waiting w) t l = rw (waits-now w t l) (taken-port (sinkFor m w) (judgedSlave (codeOf w) h) h)

@@ -84,7 +84,7 @@ hear-standing past x y a (some o) = go (o .sink) (answers past x y (o .word))
 counted-one : (n : Counts) (f u : ℕ) (j : Judgement) → n .fc ≡ f % 65536 → n .ec ≡ min u 65535
     → ((judgedOne (not (isSound j)) n .fc) ≡ suc f % 65536) × ((judgedOne (not (isSound j)) n .ec) ≡ min (addUnsound (some j) u) 65535)
 counted-one n f u Sound ef eu = (omega arith, eu)
-counted-one n f u (Bad crc) ef eu = (omega arith, go (ltb (n .ec) 65535) refl)
+counted-one n f u (Bad wrong) ef eu = (omega arith, go (ltb (n .ec) 65535) refl)
   where
     go : (b : Bool) → ltb (n .ec) 65535 ≡ b → cond b (n .ec + 1) (n .ec) ≡ min (suc u) 65535
     go true e = let l : n .ec < 65535 = ltb-true _ _ e in omega arith
@@ -96,7 +96,7 @@ module _ (n : Counts) (f u : ℕ) (ef : n .fc ≡ f % 65536) (eu : n .ec ≡ min
 
   by-master : (j : Judgement) → Counted (countsAfter n (asMaster j h)) (some j)
   by-master Sound = counted-one n f u Sound ef eu
-  by-master (Bad crc) = counted-one n f u (Bad crc) ef eu
+  by-master (Bad wrong) = counted-one n f u (Bad wrong) ef eu
 
   by-slave : (x : Exchange) → Live x t → Counted (countsAfter n (asSlave x h)) (judgedAs SlaveFrame (waitNow x t 0) h)
   by-slave Idle l = (ef, eu)
@@ -118,7 +118,7 @@ short-heard t h MasterFrame x a c = go (judgedMaster h)
   where
     go : (j : Judgement) → timesAfter t (asMaster j h) .adopted ≤ 128
     go Sound = c
-    go (Bad crc) = a
+    go (Bad wrong) = a
 short-heard t h SlaveFrame Idle a c = a
 short-heard t h SlaveFrame (Waiting w) a c = a
 short-heard t h SlaveFrame Done a c = a
@@ -131,7 +131,7 @@ chosen-heard t h MasterFrame x = go (judgedMaster h)
   where
     go : (j : Judgement) → timesAfter t (asMaster j h) .chosen ≡ t .chosen
     go Sound = refl
-    go (Bad crc) = refl
+    go (Bad wrong) = refl
 chosen-heard t h SlaveFrame Idle = refl
 chosen-heard t h SlaveFrame (Waiting w) = refl
 chosen-heard t h SlaveFrame Done = refl

@@ -35,3 +35,4 @@ pub mod Replies
 pub mod Anywhere
 pub mod Empty
 pub mod Demands
+pub mod Marks

@@ -14,7 +14,7 @@ use Rattle.sequence.specs.Frame.{blocks, byteAt, frameChecks}
 use Rattle.frames.specs.declared.Judgement.the-variants.{Sound}
 use Rattle.frames.specs.Hearing.{wordsOf}
 use Rattle.frames.specs.Size.{sizes, expectedOf}
-use Rattle.frames.specs.Judge.{countsRight, rightAt, checksRight, judged, judgedSlave}
+use Rattle.frames.specs.Judge.{countsRight, rightAt, wrongAt, wrongOf, judged, judgedSlave}
 use Rattle.frames.proofs.Judged.{right-byte}
 use Rattle.frames.proofs.Sizes.{longest}
 use Rattle.model.specs.Layout.{Areas, areasFit, portAt, flagsOf, partOf}
@@ -47,7 +47,7 @@ sent-words ws h = stored-part (replicate 16 0) 0 ws (omega (arith, length-replic
 
 -- The frame that is sent for words of the expected size is a sound slave frame.
 pub sent-sound : (code n : ℕ) (ws : List ℕ) → expectedOf code ≡ some n → length ws ≡ n → judgedSlave code (sent ws) ≡ Sound
-unfolding judgedSlave judged countsRight sent checksRight frameChecks
+unfolding judgedSlave judged countsRight sent wrongOf wrongAt frameChecks
 sent-sound code n ws e l =
     let short : length ws ≤ 16 = omega (arith, longest code n e) in
     rw (

@@ -12,6 +12,7 @@ use Rattle.frames.specs.declared.Kind.{Kind}
 use Rattle.frames.specs.declared.Kind.the-variants.{Silence, Noise, Master as MasterFrame, Slave as SlaveFrame}
 use Rattle.frames.specs.declared.Hearing.{Hearing}
 use Rattle.frames.specs.declared.Judgement.{Judgement}
+use Rattle.frames.specs.declared.Wrong.{Wrong}
 use Rattle.frames.specs.declared.Judgement.the-variants.{Sound, Unsound as Bad}
 use Rattle.frames.specs.Hearing.{wordsOf}
 use Rattle.frames.specs.Judge.{judgedMaster, judgedSlave, isSound}
@@ -71,7 +72,7 @@ module _ (m : Areas) (h : Hearing) (w : ℕ) where
   passes : ℕ → Bool
   passes v = eqb w v && isSound (judgedSlave (codeOf v) h)
 
-  unsound-passes : {crc : Bool} → judgedSlave (codeOf w) h ≡ Bad crc → (v : ℕ) → passes v ≡ false
+  unsound-passes : {wrong : Wrong} → judgedSlave (codeOf w) h ≡ Bad wrong → (v : ℕ) → passes v ≡ false
   unfolding passes
   unsound-passes e v = go (eqb w v) refl
     where
@@ -130,10 +131,10 @@ module _ (m : Areas) (h : Hearing) (w : ℕ) where
           blank : (o : Option Standing) (j : Judgement) → standingAfter (taken o j h) a none ≡ none
           blank none j = refl
           blank (some u) Sound = refl
-          blank (some u) (Bad crc) = refl
+          blank (some u) (Bad wrong) = refl
       go none eo j ej (some v) ex = rw (none-open eo a v ex)
       go (some u) eo Sound ej (some v) ex = rw (one-port u eo ej a v ex)
-      go (some u) eo (Bad crc) ej (some v) ex = none-taken passes (wordsOf h) (some v) (unsound-passes ej)
+      go (some u) eo (Bad wrong) ej (some v) ex = none-taken passes (wordsOf h) (some v) (unsound-passes ej)
 
 -- A slave frame is taken exactly when it is a sound answer to the master word of an open sink; no other frame is seen at any address.
 pub taken-exactly : (m : Areas) → Shape m → (h : Hearing) → length (h .words) ≡ 16 → (k : Kind) (x : Exchange) (t : Times) → Live x t
@@ -147,7 +148,7 @@ taken-exactly m s h l MasterFrame x t v a = go (judgedMaster h)
     go : (j : Judgement)
         → standing (apply (effectOf m (asMaster j h) h) m) a ≡ takenBy (soundAnswer MasterFrame (waitNow x t 0) h) (wordsOf h) (standing m a)
     go Sound = none-taken _ (wordsOf h) (standing m a) (λ w. refl)
-    go (Bad crc) = none-taken _ (wordsOf h) (standing m a) (λ w. refl)
+    go (Bad wrong) = none-taken _ (wordsOf h) (standing m a) (λ w. refl)
 taken-exactly m s h l SlaveFrame Idle t v a = none-taken _ (wordsOf h) (standing m a) (λ w. refl)
 taken-exactly m s h l SlaveFrame Done t v a = none-taken _ (wordsOf h) (standing m a) (λ w. refl)
 taken-exactly m s h l SlaveFrame (Waiting w) t v a = rw (waits-now w t v) (while-waiting m h w s l a)
@@ -160,7 +161,7 @@ valid-heard m h l MasterFrame x = go (judgedMaster h)
   where
     go : (j : Judgement) → Valid m (effectOf m (asMaster j h) h)
     go Sound = nothing
-    go (Bad crc) = nothing
+    go (Bad wrong) = nothing
 valid-heard m h l SlaveFrame Idle = nothing
 valid-heard m h l SlaveFrame Done = nothing
 valid-heard m h l SlaveFrame (Waiting w) = valid-taken m w h (judgedSlave (codeOf w) h) l refl
@@ -180,7 +181,7 @@ module _ (m : Areas) (h : Hearing) where
           → Took (soundAnswer SlaveFrame (some w) h) m h (taken o j h)
       go none eo j ej = spares still (open-sink eo)
       go (some u) eo Sound ej = let k = sink-open m w u eo in takes (addressOf w) u (k .there) (k .sink) (rw (k .word, eq-eqb w w refl, ej))
-      go (some u) eo (Bad crc) ej = spares marks (λ a v e k. unsound-passes m h w ej (v .word))
+      go (some u) eo (Bad wrong) ej = spares marks (λ a v e k. unsound-passes m h w ej (v .word))
 
   -- whatever is heard fills the sink whose waiting word it soundly answers; else status bits alone change
   pub took-heard : (k : Kind) (x : Exchange) (t : Times) → Live x t
@@ -191,7 +192,7 @@ module _ (m : Areas) (h : Hearing) where
     where
       go : (j : Judgement) → Took (soundAnswer MasterFrame (waitNow x t 0) h) m h (effectOf m (asMaster j h) h)
       go Sound = spares still (λ a v e s. refl)
-      go (Bad crc) = spares still (λ a v e s. refl)
+      go (Bad wrong) = spares still (λ a v e s. refl)
   took-heard SlaveFrame Idle t l = spares still (λ a v e s. refl)
   took-heard SlaveFrame Done t l = spares still (λ a v e s. refl)
   took-heard SlaveFrame (Waiting w) t l = rw (waits-now w t l) (waiting-took w)
@@ -209,7 +210,7 @@ taken-raises m h SlaveFrame (Waiting w) t l a v e s f = go (and-eq-true-iff _ _ 
   where
     sound : (j : Judgement) → isSound j ≡ true → j ≡ Sound
     sound Sound q = refl
-    sound (Bad crc) q = absurd (false≢true q)
+    sound (Bad wrong) q = absurd (false≢true q)
 
     go : (eqb w (v .word) ≡ true) × (isSound (judgedSlave (codeOf (v .word)) h) ≡ true)
         → raised0 m (Waiting w) t (Reply w (judgedSlave (codeOf w) h)) ≡ SFC ∷ interruptOf (some v)

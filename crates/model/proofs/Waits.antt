@@ -62,7 +62,7 @@ module _ (d : Device) (m : Areas) (t : Times) (h : Hearing) where
       ≡ waitAfter MasterFrame j before (begun (firstWord h) q)
   unfolding begun exchangeFor
   by-judgement Sound x before q = by-answer (firstWord h) (expectedOf (codeOf (firstWord h))) (answerTo d m (firstWord h)) q
-  by-judgement (Bad crc) x before q = refl
+  by-judgement (Bad wrong) x before q = refl
 
   by-exchange : (x : Exchange) (q : ℕ) → waitNow (exchangeAfter d m x (asSlave x h)) (timesAfter t (asSlave x h)) q ≡ none
   by-exchange Idle q = refl
@@ -89,7 +89,7 @@ module _ (d : Device) (m : Areas) (t : Times) (h : Hearing) where
   live-master : (j : Judgement) (x : Exchange) → 0 < t .chosen → Live (exchangeAfter d m x (asMaster j h)) (timesAfter t (asMaster j h))
   unfolding exchangeFor
   live-master Sound x p = live-answer (firstWord h) (expectedOf (codeOf (firstWord h))) (answerTo d m (firstWord h)) p
-  live-master (Bad crc) x p = tt
+  live-master (Bad wrong) x p = tt
 
   live-slave : (x : Exchange) → Live x t → Live (exchangeAfter d m x (asSlave x h)) (timesAfter t (asSlave x h))
   live-slave Idle l = tt

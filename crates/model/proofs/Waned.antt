@@ -155,7 +155,7 @@ harmless-wait d m h MasterFrame x o e = go (judgedMaster h) e
     go : (j : Judgement) → not (isSound j) ≡ true
         → (waitWord (exchangeAfter d m x (asMaster j h)) ≡ waitWord x) ⊎ (waitWord (exchangeAfter d m x (asMaster j h)) ≡ none)
     go Sound i = absurd (false≢true i)
-    go (Bad crc) i = inr refl
+    go (Bad wrong) i = inr refl
 harmless-wait d m h SlaveFrame Idle o e = inl refl
 harmless-wait d m h SlaveFrame (Waiting w) o e = inr refl
 harmless-wait d m h SlaveFrame Done o e = inl refl

@@ -43,7 +43,7 @@ world c m = record { controller = c; areas = m }
 
 abbrev pub asMaster : Judgement → Hearing → Heard
 asMaster Sound h = Master (getD (h .words) 0 0)
-asMaster (Bad crc) h = Unsound
+asMaster (Bad wrong) h = Unsound
 
 abbrev pub asSlave : Exchange → Hearing → Heard
 asSlave Idle h = Stray
@@ -179,13 +179,13 @@ interruptOf (some v) = transferBit (v .interrupt)
 -- the slave frame that is judged: ESF if it is unsound, else the interrupt of the port that it fills
 abbrev pub raisedByReply : Areas → ℕ → Judgement → List ℕ
 raisedByReply m w Sound = interruptOf (sinkFor m w)
-raisedByReply m w (Bad crc) = ESF ∷ []
+raisedByReply m w (Bad wrong) = ESF ∷ []
 
 -- a sound slave frame fills the sink port with the waiting word; of an unsound one only the status bits change
 abbrev pub taken : Option Standing → Judgement → Hearing → Effect
 taken none j h = untouched
 taken (some v) Sound h = fill (v .port) (wordsOf h)
-taken (some v) (Bad crc) h = mark (v .port) (replyBad crc (h .sqe) (h .alo))
+taken (some v) (Bad wrong) h = mark (v .port) (replyBad wrong (h .sqe) (h .alo))
 
 pub record Brings : Type 0 where
   pub exchange : Exchange

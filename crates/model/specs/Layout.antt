@@ -1,10 +1,12 @@
--- Document 01, "Memory lent to the calls": the four areas, and where a port's words and page words lie. Assumes nothing.
+-- Document 01, "Memory lent to the calls": the four areas, and where a port's words and page words lie. Document 02, W-206: the marks of
+-- the blocks in word 1. Assumes nothing.
 use Prim.Native.Nat.{ℕ, _+_, _*_, _/_, _%_}
 use mathlib.Core.Bool.{Bool, true, false, _&&_}
 use mathlib.Core.List.{List}
 use lib.Dec.{eqb}
 use lib.ListN.{length, getD, set, take, drop}
 use lib.Seq.{sets}
+use Rattle.frames.specs.declared.Wrong.{Wrong}
 use Rattle.model.specs.declared.Words.{Words}
 use Rattle.model.specs.declared.Flags.{Flags}
 
@@ -61,7 +63,8 @@ portAt m p = wordsAt (m .ports) p
 abbrev pub withPort : Areas → ℕ → Words → Areas
 withPort m p w = areas (m .index) (withWords (m .ports) p w) (m .page0) (m .page1)
 
--- ---- word 1 taken apart and put together: bit 0 VP, 1 EVER, 2 SRC, 3 SINK, 4 STO, 5 TERR, 6 CRC, 7 SQE, 8 ALO; the others zero
+-- ---- word 1 taken apart and put together: bit 0 VP, 1 EVER, 2 SRC, 3 SINK, 4 STO, 5 TERR, 6 CRC, 7 SQE, 8 ALO, 9 to 12 the marks of the
+-- blocks, lowest bit for the first block; the others zero
 
 -- a bit of x, by its weight
 unfoldable pub bitAt : ℕ → ℕ → Bool
@@ -74,7 +77,15 @@ flagsOf x =
       ever = bitAt x 2;
       src = bitAt x 4;
       sink = bitAt x 8;
-      faults = record { sto = bitAt x 16; terr = bitAt x 32; crc = bitAt x 64; sqe = bitAt x 128; alo = bitAt x 256 };
+      faults =
+          record {
+            sto = bitAt x 16;
+            terr = bitAt x 32;
+            crc = bitAt x 64;
+            sqe = bitAt x 128;
+            alo = bitAt x 256;
+            wrong = record { first = bitAt x 512; second = bitAt x 1024; third = bitAt x 2048; fourth = bitAt x 4096 };
+          };
     }
 
 -- a flag's part of the word
@@ -82,14 +93,20 @@ abbrev pub worth : Bool → ℕ → ℕ
 worth true k = k
 worth false k = 0
 
+-- the marks as a number, lowest bit for the first block
+abbrev pub marksNumber : Wrong → ℕ
+marksNumber w = worth (w .first) 1 + worth (w .second) 2 + worth (w .third) 4 + worth (w .fourth) 8
+
 unfoldable pub wordOf : Flags → ℕ
 wordOf f =
     worth (f .vp) 1 + worth (f .ever) 2 + worth (f .src) 4 + worth (f .sink) 8 + worth (f .faults .sto) 16 + worth (f .faults .terr) 32
     + worth (f .faults .crc) 64 + worth (f .faults .sqe) 128 + worth (f .faults .alo) 256
+    + worth (f .faults .wrong .first) 512 + worth (f .faults .wrong .second) 1024 + worth (f .faults .wrong .third) 2048
+    + worth (f .faults .wrong .fourth) 4096
 
--- the zero bits are zero
+-- the zero bits, 13 to 15, are zero
 unfoldable pub zeroBits : ℕ → Bool
-zeroBits x = eqb (x / 512) 0
+zeroBits x = eqb (x / 8192) 0
 
 -- ---- port p owns words 16p to 16p+15 in both pages
 

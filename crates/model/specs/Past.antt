@@ -227,7 +227,7 @@ abbrev pub ifMaster : Kind → Judgement → Option (List ℕ) → Option (List 
 ifMaster Silence j r = none
 ifMaster Noise j r = none
 ifMaster Master Sound r = r
-ifMaster Master (Unsound crc) r = none
+ifMaster Master (Unsound wrong) r = none
 ifMaster Slave j r = none
 
 -- the words that we reply to an event, if we do
@@ -247,7 +247,7 @@ abbrev pub waitAfter : Kind → Judgement → Option ℕ → Option ℕ → Opti
 waitAfter Silence j before begun = before
 waitAfter Noise j before begun = before
 waitAfter Master Sound before begun = begun
-waitAfter Master (Unsound crc) before begun = none
+waitAfter Master (Unsound wrong) before begun = none
 waitAfter Slave j before begun = none
 
 -- what is waited for after one happening more, from what was waited for before it
@@ -342,7 +342,7 @@ addJudged (some j) n = suc n
 abbrev pub addUnsound : Option Judgement → ℕ → ℕ
 addUnsound none n = n
 addUnsound (some Sound) n = n
-addUnsound (some (Unsound crc)) n = suc n
+addUnsound (some (Unsound wrong)) n = suc n
 
 -- a judged frame is added, and a setting that stops the count begins it anew
 abbrev pub countBy : (Setting → Bool) → (Option Judgement → ℕ → ℕ) → List Call → Happening → ℕ → ℕ

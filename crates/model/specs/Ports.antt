@@ -5,7 +5,9 @@ use mathlib.Core.Bool.{Bool, true, false, cond, not, _&&_, _||_}
 use mathlib.Core.List.{List}
 use mathlib.Core.Option.{Option, none, some}
 use lib.Dec.{eqb, leb}
+use Rattle.frames.specs.declared.Wrong.{Wrong}
 use Rattle.frames.specs.Size.{expectedOf}
+use Rattle.frames.specs.Judge.{noWrong, anyWrong}
 use Rattle.model.specs.declared.Words.{Words}
 use Rattle.model.specs.declared.Flags.{Flags}
 use Rattle.model.specs.declared.Faults.{Faults}
@@ -132,15 +134,15 @@ stateOf f = cond (f .ever) (cond (isHeld (f .faults)) Held Good) Never
 -- ---- status bits, as a set
 
 abbrev pub noFaults : Faults
-noFaults = record { sto = false; terr = false; crc = false; sqe = false; alo = false }
+noFaults = record { sto = false; terr = false; crc = false; sqe = false; alo = false; wrong = noWrong }
 
 -- STO alone
 abbrev pub replyMissing : Faults
-replyMissing = record { sto = true; terr = false; crc = false; sqe = false; alo = false }
+replyMissing = record { sto = true; terr = false; crc = false; sqe = false; alo = false; wrong = noWrong }
 
--- TERR set, STO clear, CRC, SQE and ALO as told
-abbrev pub replyBad : Bool → Bool → Bool → Faults
-replyBad crc sqe alo = record { sto = false; terr = true; crc = crc; sqe = sqe; alo = alo }
+-- TERR set, STO clear, the blocks marked that are wrong, CRC exactly if one is, SQE and ALO as told
+abbrev pub replyBad : Wrong → Bool → Bool → Faults
+replyBad wrong sqe alo = record { sto = false; terr = true; crc = anyWrong wrong; sqe = sqe; alo = alo; wrong = wrong }
 
 -- ---- port words after a fill, with other status bits, and freshly opened
 

@@ -5,6 +5,7 @@
 // refused (Refused), what holds in any memory (Anywhere, Empty), what a port shows and what is replied and counted in a run (Demands), and
 // that damage leaves no trace but what document 01 lists (MayDiffer, Settled). docs/READING.md says in which order to read them.
 use frames::Judgement;
+use frames::Wrong;
 use interrupts::Group;
 
 // The exchange is idle, waiting with the master word, or done.
@@ -62,13 +63,14 @@ pub struct Words {
     pub fills: u16,
 }
 
-// The status bits of a port's flags.
+// The status bits of a port's flags; the marks of the blocks are among them.
 pub struct Faults {
     pub sto: bool,
     pub terr: bool,
     pub crc: bool,
     pub sqe: bool,
     pub alo: bool,
+    pub wrong: Wrong,
 }
 
 // The flags of a port: valid page, ever filled, source, sink, and the status bits.

@@ -207,7 +207,7 @@ fn end(
 
 // Reads the input to its end and prints what is printed of it. The areas are cleared, and a line has at most 1,024 bytes. The output's buffer
 // has room for what 4,096 bytes of input may say (a reply of at most 128 bytes for each master frame of at least 11) and for 255 ports of at most
-// 170 bytes.
+// 180 bytes.
 pub fn serve(input: i32, output: i32) {
     let mut index = [0u16; 4096];
     let mut ports = [0u16; 1024];

@@ -1,5 +1,5 @@
--- Document 01, "Numbers on either side": what is printed: seven lines for each open port by rising address, replies and refusals. Assumes
--- nothing.
+-- Document 01, "Numbers on either side", and document 02, W-206: what is printed: eight lines for each open port by rising address, replies
+-- and refusals. Assumes nothing.
 use Prim.Native.Nat.{ℕ, zero, suc}
 use mathlib.Core.Bool.{Bool, cond}
 use mathlib.Core.List.{List, [], _∷_, _++_}
@@ -11,12 +11,13 @@ use Rattle.frames.specs.declared.Kind.{Kind}
 use Rattle.frames.specs.declared.Kind.the-variants.{Silence, Noise, Master, Slave}
 use Rattle.frames.specs.declared.Hearing.{Hearing}
 use Rattle.frames.specs.Hearing.{wordsOf}
+use Rattle.model.specs.declared.Faults.{Faults}
 use Rattle.model.specs.declared.Answer.{Answer}
 use Rattle.model.specs.declared.Answer.the-variants.{Never, Good, Held, Refused}
-use Rattle.model.specs.Layout.{Areas, entry, portAt, flagsOf}
+use Rattle.model.specs.Layout.{Areas, entry, portAt, flagsOf, marksNumber}
 use Rattle.model.specs.Ports.{codeOf}
 use Rattle.model.specs.Calls.{asked, fetched}
-use Rattle.port_text.specs.Words.{wAddr, wFcode, wDir, wIndex, wState, wFills, wData, wReply, wRefused}
+use Rattle.port_text.specs.Words.{wAddr, wFcode, wDir, wIndex, wState, wFills, wBlocks, wData, wReply, wRefused}
 use Rattle.port_text.specs.Words.{wSink, wSource, wNever, wGood, wHeld, wNone}
 
 -- `key=`, before a value
@@ -45,12 +46,20 @@ dataText Good ws = commas ws
 dataText Held ws = commas ws
 dataText (Refused n) ws = commas ws
 
--- the seven lines of the port p at address a
+-- `blocks` the marks as a number
+abbrev pub blocksText : Faults → List ℕ
+blocksText f = decimal (marksNumber (f .wrong))
+
+-- the setup lines of a port
+abbrev pub setupText : ℕ → ℕ → Bool → ℕ → List ℕ
+setupText a code sink p =
+    lineText wAddr (decimal a) ++ lineText wFcode (decimal code) ++ lineText wDir (dirText sink) ++ lineText wIndex (decimal p)
+
+-- the eight lines of the port p at address a
 unfoldable pub portText : Areas → ℕ → ℕ → List ℕ
 portText m a p =
-    lineText wAddr (decimal a) ++ lineText wFcode (decimal (codeOf (portAt m p .master)))
-    ++ lineText wDir (dirText (flagsOf (portAt m p .flags) .sink)) ++ lineText wIndex (decimal p)
-    ++ lineText wState (stateText (asked m a)) ++ lineText wFills (decimal (portAt m p .fills))
+    setupText a (codeOf (portAt m p .master)) (flagsOf (portAt m p .flags) .sink) p ++ lineText wState (stateText (asked m a))
+    ++ lineText wFills (decimal (portAt m p .fills)) ++ lineText wBlocks (blocksText (flagsOf (portAt m p .flags) .faults))
     ++ lineText wData (dataText (asked m a) (fetched m a))
 
 -- of an address without a port nothing

@@ -56,6 +56,9 @@ wState = 115 ∷ 116 ∷ 97 ∷ 116 ∷ 101 ∷ []  -- state
 abbrev pub wFills : List ℕ
 wFills = 102 ∷ 105 ∷ 108 ∷ 108 ∷ 115 ∷ []  -- fills
 
+abbrev pub wBlocks : List ℕ
+wBlocks = 98 ∷ 108 ∷ 111 ∷ 99 ∷ 107 ∷ 115 ∷ []  -- blocks
+
 abbrev pub wData : List ℕ
 wData = 100 ∷ 97 ∷ 116 ∷ 97 ∷ []  -- data
 

@@ -1,5 +1,5 @@
 // The lines of the port program (document 01, "Numbers on either side"), both ways: what a line of the input says (`line`), and the lines
-// that are printed (`say`): replies, refusals, and seven for each open port (`report`).
+// that are printed (`say`): replies, refusals, and eight for each open port (`report`).
 //
 // Promised for all inputs: what a line says is specs/Line.antt, what is printed specs/Report.antt. Output goes into a lent buffer of any
 // length: past its end bytes are counted and not stored. Nothing is asked of the caller. The lines `addr`, `fcode`, `dir` and `index` that

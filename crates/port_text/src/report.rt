@@ -1,9 +1,9 @@
-// The open ports, seven lines for each.
+// The open ports, eight lines for each.
 ghost use mathlib.Core.Path.{_≡_};
 ghost use Rattle.port_digits.specs.Write.{paper, onto};
 ghost use Rattle.areas.specs.Lent.{lent};
 ghost use Rattle.port_text.specs.Words.{wDir, wState, wData};
-ghost use Rattle.port_text.specs.Report.{lineText, dirText, stateText, dataText, portText, openText, report};
+ghost use Rattle.port_text.specs.Report.{lineText, dirText, stateText, dataText, setupText, portText, openText, report};
 use crate::say;
 use areas::layout;
 use constants::CODE_UNIT;
@@ -46,7 +46,17 @@ fn put_data(out: &mut [u8], at: usize, x: Answer, ws: &[u16]) -> usize
     }
 }
 
-// The seven lines of port p at address a.
+// The setup lines of a port.
+fn put_setup(out: &mut [u8], at: usize, a: u16, code: u16, sink: bool, p: u16) -> usize
+    ensures { λ r. ⌜ paper (now (out .exit)) r ≡ onto (paper (now (out .entry)) at) (setupText a code sink p) ⌝ }
+{
+    let addr = say::put_numbered(out, at, b"addr", a);
+    let fcode = say::put_numbered(out, addr, b"fcode", code);
+    let dir = put_dir(out, fcode, sink);
+    say::put_numbered(out, dir, b"index", p)
+}
+
+// The eight lines of port p at address a.
 fn put_port<'a>(
     index: &[u16],
     ports: &[u16],
@@ -64,15 +74,15 @@ fn put_port<'a>(
 {
     let w = layout::get_port(ports, p);
     let f = layout::flags_of(w.flags);
+    let faults = f.faults;
+    let marks = layout::marks_number(faults.wrong);
     let state = calls::ask(index, ports, page0, page1, a);
     let words = calls::fetch(index, ports, page0, page1, a);
-    let addr = say::put_numbered(out, at, b"addr", a);
-    let code = say::put_numbered(out, addr, b"fcode", w.master / CODE_UNIT);
-    let dir = put_dir(out, code, f.sink);
-    let number = say::put_numbered(out, dir, b"index", p);
-    let told = put_state(out, number, state);
+    let described = put_setup(out, at, a, w.master / CODE_UNIT, f.sink, p);
+    let told = put_state(out, described, state);
     let fills = say::put_numbered(out, told, b"fills", w.fills);
-    put_data(out, fills, state, words)
+    let blocks = say::put_numbered(out, fills, b"blocks", marks);
+    put_data(out, blocks, state, words)
 }
 
 // The port at address a, if one is open.

@@ -133,7 +133,7 @@ unfolding unfed start
 calls-print {m} {l} {f} {ps} κs a e b calls cleared room =
     calls-said calls (ap (λ (y : Feed). y .stepped .at) b) ∙ rw (b, cleared, room) (pieces-printed ps)
 
--- So it prints what the past tells: the replies, and then of each open port its seven lines, or the number of the refusal.
+-- So it prints what the past tells: the replies, and then of each open port its eight lines, or the number of the refusal.
 pub calls-told : {m : Areas} {l : List ℕ} {f : Feed} {ps : List (List ℕ)} {w : List ℕ} (κs : _) (a : _) (e : _) → begin-reads.Learnt κs a f e
     → Prints m l f ps w → m ≡ clearedAreas → length l ≡ longest
     → w ≡ outputTold (courseOf (joined ps))

@@ -1,5 +1,5 @@
 -- DEMANDS 2 AND 3 AT THE PORT PROGRAM. The lines of an input make a run of accepted calls, and what is printed is what the past of these
--- calls tells: the replies, and of each open port the seven lines with the words that filled it last. Assumes nothing.
+-- calls tells: the replies, and of each open port the eight lines with the words that filled it last. Assumes nothing.
 use Prim.Native.Nat.{ℕ, zero, suc, _%_}
 use mathlib.Core.Path.{_≡_, refl, sym, _∙_, ap}
 use mathlib.Core.Bool.{Bool, true, false, cond}
@@ -28,7 +28,7 @@ use Rattle.port_text.specs.Line.{Line}
 use Rattle.port_line.specs.declared.Setup.{Setup}
 use Rattle.port_line.specs.Meaning.{freshSetup, state, whole, Step, meaning}
 use Rattle.port_run.specs.Printed.{textLines, longest, lineIn, endText, printedFrom, printed}
-use Rattle.port_told.specs.Told.{callIn, added, inPlace, callRefusal, lineRefusal, setupAfter, courseFrom, courseOf, heldIn, stateTold}
+use Rattle.port_told.specs.Told.{callIn, added, inPlace, callRefusal, lineRefusal, setupAfter, courseFrom, courseOf, faultsIn, stateTold}
 use Rattle.port_told.specs.Told.{dataTold, linesTold, portTold, toldBelow, reportTold, repliesTold, outputTold}
 use Rattle.port_told.proofs.Course.{Does, typed-in, line-does}
 
@@ -65,7 +65,7 @@ module _ (m : Areas) (shape : Shape m) (a : ℕ) (o : Opening) (l : List (List �
   open-there : eqb (entry m a) 0 ≡ false
   open-there = let at = standing-at m a _ stands in ne-eqb (entry m a) 0 (λ z. omega (arith, at .positive, at .port))
 
-  standing-said : openText m a ≡ linesTold (heldIn m a) a o l
+  standing-said : openText m a ≡ linesTold (faultsIn m a) a o l
   unfolding openText portText linesTold standingOf fetched
   standing-said =
       let word = ap (λ (v : Standing). v .word) whole-port in
@@ -84,23 +84,23 @@ module _ (past : List Call) (run : Accepted past) where
 
   -- What is printed of an address is what the past tells of it: nothing where no port is open, and of an open port its setup, the words
   -- that filled it last since it was opened, or that there were none, and their number.
-  pub port-told : (a : ℕ) → openText m a ≡ portTold past (heldIn m a) a (openingOf past a)
+  pub port-told : (a : ℕ) → openText m a ≡ portTold past (faultsIn m a) a (openingOf past a)
   unfolding openText
   port-told a = go (openingOf past a) (past-told past run .holds .stands a)
     where
-      go : (o : Option Opening) → standing m a ≡ toldStanding past a o → openText m a ≡ portTold past (heldIn m a) a o
+      go : (o : Option Opening) → standing m a ≡ toldStanding past a o → openText m a ≡ portTold past (faultsIn m a) a o
       go none e = rw (eq-eqb (entry m a) 0 (none-entry m a (past-told past run .holds .shape) e))
       go (some o) e = standing-said m (past-told past run .holds .shape) a o (fillings past a o) e
 
   -- Of an open sink: the words of the last sound slave frame that answered its master frame since it was opened, or that there was none; its
   -- fills are the number of these frames.
   pub sink-told : (a : ℕ) (o : Opening) → openingOf past a ≡ some o → o .sink ≡ true
-      → openText m a ≡ linesTold (heldIn m a) a o (answersSince past a (o .word))
+      → openText m a ≡ linesTold (faultsIn m a) a o (answersSince past a (o .word))
   sink-told a o e sink = port-told a ∙ rw (e, sink)
 
   -- Of an open source: the words that the host last wrote to it since it was opened, or that there were none.
   pub source-told : (a : ℕ) (o : Opening) → openingOf past a ≡ some o → o .sink ≡ false
-      → openText m a ≡ linesTold (heldIn m a) a o (writesSince past a)
+      → openText m a ≡ linesTold (faultsIn m a) a o (writesSince past a)
   source-told a o e source = port-told a ∙ rw (e, source)
 
   below-told : (n : ℕ) → reportBelow m n ≡ toldBelow past n
@@ -183,7 +183,7 @@ pub input-undamaged : (t : List ℕ) → courseOf t .refusal ≡ 6 → ⊥
 unfolding courseOf
 input-undamaged t = lines-told longest (textLines t) freshSetup [] tt .undamaged
 
--- What is printed of an input is what its past tells: the replies, and then of each open port its seven lines, or the number of the refusal.
+-- What is printed of an input is what its past tells: the replies, and then of each open port its eight lines, or the number of the refusal.
 pub printed-told : (t : List ℕ) → printed t ≡ outputTold (courseOf t)
 unfolding printed courseOf after repliesTold
 printed-told t = lines-told longest (textLines t) freshSetup [] tt .text

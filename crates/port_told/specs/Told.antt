@@ -7,13 +7,14 @@ use mathlib.Core.Option.{Option, none, some}
 use lib.Dec.{eqb}
 use lib.ListN.{length}
 use Rattle.port_digits.specs.Write.{decimal, commas}
+use Rattle.model.specs.declared.Faults.{Faults}
 use Rattle.model.specs.Layout.{Areas, entry, portAt, flagsOf}
 use Rattle.model.specs.Ports.{codeOf, isHeld}
 use Rattle.model.specs.Event.{spoken}
 use Rattle.model.specs.Calls.{Call, hear, quiet, openPort, writePort, refusal}
 use Rattle.model.specs.Past.{after, Opening, openingOf, Happening, hears, passes, sets, changes, happening, replyIn, lastOf, fillings}
-use Rattle.port_text.specs.Words.{wAddr, wFcode, wDir, wIndex, wState, wFills, wData, wNever, wGood, wHeld, wNone}
-use Rattle.port_text.specs.Report.{lineText, dirText, refusedText, replyText}
+use Rattle.port_text.specs.Words.{wState, wFills, wBlocks, wData, wNever, wGood, wHeld, wNone}
+use Rattle.port_text.specs.Report.{lineText, blocksText, setupText, refusedText, replyText}
 use Rattle.port_text.specs.Line.{Line, addr, fcode, index, dir, frame, quiet as quietLine, write, malformed}
 use Rattle.port_line.specs.declared.Setup.{Setup}
 use Rattle.port_line.specs.Meaning.{setup, freshSetup, whole}
@@ -92,9 +93,9 @@ courseOf t = courseFrom longest (textLines t) freshSetup []
 
 -- ---- what the past tells of a port
 
--- STO or TERR is set
-abbrev pub heldIn : Areas → ℕ → Bool
-heldIn m a = isHeld (flagsOf (portAt m (entry m a) .flags) .faults)
+-- the status bits of the port at address a
+abbrev pub faultsIn : Areas → ℕ → Faults
+faultsIn m a = flagsOf (portAt m (entry m a) .flags) .faults
 
 -- `state` is never where no words filled the port, and good or held where some did; of these two the status bits decide
 abbrev pub stateTold : Bool → Option (List ℕ) → List ℕ
@@ -106,22 +107,22 @@ abbrev pub dataTold : Option (List ℕ) → List ℕ
 dataTold none = wNone
 dataTold (some ws) = commas ws
 
--- the seven lines of a port that was opened at address a and then filled with these words, the newest first
-unfoldable pub linesTold : Bool → ℕ → Opening → List (List ℕ) → List ℕ
-linesTold held a o filled =
-    lineText wAddr (decimal a) ++ lineText wFcode (decimal (codeOf (o .word))) ++ lineText wDir (dirText (o .sink))
-    ++ lineText wIndex (decimal (o .port)) ++ lineText wState (stateTold held (lastOf filled))
-    ++ lineText wFills (decimal (length filled % 65536)) ++ lineText wData (dataTold (lastOf filled))
+-- the eight lines of a port that was opened at address a and then filled with these words, the newest first; good or held, and `blocks`, go by
+-- its status bits
+unfoldable pub linesTold : Faults → ℕ → Opening → List (List ℕ) → List ℕ
+linesTold f a o filled =
+    setupText a (codeOf (o .word)) (o .sink) (o .port) ++ lineText wState (stateTold (isHeld f) (lastOf filled))
+    ++ lineText wFills (decimal (length filled % 65536)) ++ lineText wBlocks (blocksText f) ++ lineText wData (dataTold (lastOf filled))
 
 -- of an address where nothing was opened, or what was is closed, nothing
-abbrev pub portTold : List Call → Bool → ℕ → Option Opening → List ℕ
-portTold past held a none = []
-portTold past held a (some o) = linesTold held a o (fillings past a o)
+abbrev pub portTold : List Call → Faults → ℕ → Option Opening → List ℕ
+portTold past f a none = []
+portTold past f a (some o) = linesTold f a o (fillings past a o)
 
 -- the ports below an address, by rising address
 unfoldable pub toldBelow : List Call → ℕ → List ℕ
 toldBelow past zero = []
-toldBelow past (suc a) = toldBelow past a ++ portTold past (heldIn (after past .areas) a) a (openingOf past a)
+toldBelow past (suc a) = toldBelow past a ++ portTold past (faultsIn (after past .areas) a) a (openingOf past a)
 
 -- all open ports
 unfoldable pub reportTold : List Call → List ℕ

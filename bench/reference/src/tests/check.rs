@@ -91,7 +91,7 @@ fn sound_frames() {
 fn each_mark_makes_a_frame_unsound() {
     for marked in [sqe(master(1)), violation(master(1)), alo(master(1))] {
         assert!(!marked.sound(Some(1)));
-        assert!(marked.counts_right(Some(1)) && marked.bytes_right());
+        assert!(marked.counts_right(Some(1)) && marked.wrong_blocks(Some(1)) == 0);
     }
 }
 
@@ -113,4 +113,25 @@ fn each_check_byte_is_tested() {
         heard.checks[which] ^= 0x10;
         assert!(heard.counts_right(Some(16)) && !heard.sound(Some(16)));
     }
+}
+
+#[test]
+fn each_wrong_block_has_its_bit() {
+    let words: [u16; 16] = std::array::from_fn(|i| 7 * i as u16);
+    let right = check_bytes(&words);
+    for marks in 0..16u16 {
+        let checks: Vec<u8> = (0..4).map(|k| right[k] ^ (marks >> k & 1) as u8).collect();
+        let heard = slave_with(&words, &checks);
+        assert_eq!(heard.wrong_blocks(Some(16)), marks);
+        assert_eq!(heard.sound(Some(16)), marks == 0);
+        assert_eq!(slave_with(&words[..8], &checks[..2]).wrong_blocks(Some(8)), marks & 3);
+        // Wrong counts: no block is marked.
+        assert_eq!(heard.wrong_blocks(Some(8)), 0);
+        assert_eq!(heard.wrong_blocks(None), 0);
+        assert_eq!(slave_with(&words, &checks[..3]).wrong_blocks(Some(16)), 0);
+    }
+}
+
+fn slave_with(words: &[u16], checks: &[u8]) -> Hearing {
+    Hearing::of(Kind::Slave, words, checks)
 }

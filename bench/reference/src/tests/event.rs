@@ -164,11 +164,11 @@ fn status_polls() {
 fn an_unsound_slave_changes_status_bits_alone() {
     // What is heard, and the status bits of the port afterwards.
     let cases = [
-        (bad_check(slave(&[5])), TERR | CRC),
+        (bad_check(slave(&[5])), TERR | CRC | FIRST_BLOCK),
         (sqe(slave(&[5])), TERR | SQE),
         (alo(slave(&[5])), TERR | ALO),
         (violation(slave(&[5])), TERR),
-        (sqe(alo(bad_check(slave(&[5])))), TERR | CRC | SQE | ALO),
+        (sqe(alo(bad_check(slave(&[5])))), TERR | CRC | SQE | ALO | FIRST_BLOCK),
         (slave(&[5, 6]), TERR),
         (bad_check(slave(&[0, 5])), TERR),
         (Hearing::of(Kind::Slave, &[5], &[0, 0]), TERR),
@@ -186,6 +186,31 @@ fn an_unsound_slave_changes_status_bits_alone() {
             assert_eq!((w.c.fc, w.c.ec), (2, 1));
             assert_eq!(w.areas, expected);
         }
+    }
+}
+
+#[test]
+fn the_wrong_blocks_are_marked() {
+    let words = [3; 16];
+    for marks in 0..16u16 {
+        let mut heard = sqe(slave(&words));
+        for k in 0..4 {
+            heard.checks[k] ^= (marks >> k & 1) as u8;
+        }
+        let mut w = World::with_ports();
+        open(&mut w.areas, 9, 9, 4, true, 0);
+        w.both(master(0x4009));
+        w.both(heard);
+        let crc = if marks == 0 { 0 } else { CRC };
+        assert_eq!(w.word1(9), SINK | TERR | SQE | crc | marks << 9);
+        w.both(master(0x4009));
+        quiet(&mut w.c, &mut w.areas, 64);
+        assert_eq!(w.word1(9), SINK | STO);
+        w.both(master(0x4009));
+        w.both(heard);
+        w.both(master(0x4009));
+        w.both(slave(&words));
+        assert_eq!(w.word1(9), SINK | EVER | VP);
     }
 }
 

@@ -6,7 +6,7 @@ const SOURCE: &str = "addr=2\nfcode=1\ndir=source\nindex=2\n";
 #[test]
 fn the_example_of_the_document() {
     let output = run(&format!("{SINK}master=1,52\nslave=2;161\n"));
-    assert_eq!(output, "addr=1\nfcode=0\ndir=sink\nindex=1\nstate=good\nfills=1\ndata=2\n");
+    assert_eq!(output, "addr=1\nfcode=0\ndir=sink\nindex=1\nstate=good\nfills=1\nblocks=0\ndata=2\n");
     assert_eq!(run(&format!("{SINK}master=1,52\nslave=2;161")), output); // no last newline
 }
 
@@ -21,7 +21,7 @@ fn replies_and_ports_by_rising_address() {
     assert_eq!(
         output,
         format!(
-            "reply=0,1;52\n{SINK}state=never\nfills=0\ndata=none\n{SOURCE}state=good\nfills=1\ndata=0,1\n"
+            "reply=0,1;52\n{SINK}state=never\nfills=0\nblocks=0\ndata=none\n{SOURCE}state=good\nfills=1\nblocks=0\ndata=0,1\n"
         )
     );
 }
@@ -33,7 +33,18 @@ fn check(word: u16) -> u8 {
 #[test]
 fn a_timeout_holds() {
     let filled = format!("{SINK}master=1,52\nslave=2;161\nmaster=1,52\nquiet=64\n");
-    assert_eq!(run(&filled), format!("{SINK}state=held\nfills=1\ndata=2\n"));
+    assert_eq!(run(&filled), format!("{SINK}state=held\nfills=1\nblocks=0\ndata=2\n"));
+}
+
+#[test]
+fn the_blocks_that_were_bad() {
+    let wrong = format!("{SINK}master=1,52\nslave=2;160\n");
+    assert_eq!(run(&wrong), format!("{SINK}state=never\nfills=0\nblocks=1\ndata=none\n"));
+    let long = "addr=3\nfcode=4\ndir=sink\nindex=3\n";
+    let asked = format!("master=16387,{}\n", check(16387));
+    let heard = "slave=0,0,0,0,0,0,0,0,0,0,0,0,0,0,0,0;255,254,255,127\n";
+    assert_eq!(run(&format!("{long}{asked}{heard}")), format!("{long}state=never\nfills=0\nblocks=10\ndata=none\n"));
+    assert_eq!(run(&format!("{long}{asked}{heard}{asked}quiet=64\n")), format!("{long}state=never\nfills=0\nblocks=0\ndata=none\n"));
 }
 
 #[test]

@@ -1,7 +1,8 @@
 -- `frames::judge` gives the judgement: by the outcomes of its tests, and from what its callees ensure. Assumes nothing.
-use mathlib.Core.Path.{_≡_, sym, _∙_}
+use mathlib.Core.Path.{_≡_, sym, _∙_, ap}
 use lib.ListN.{length}
 use lib.Seq.{length-take-le}
+use Rattle.frames.specs.declared.Judgement.the-variants.{Unsound}
 use Rattle.frames.specs.Hearing.{wordsOf}
 use native.Mathlib.Omega.{arith}
 use Rattle.frames.proofs.Judged.{wrong-size, wrong-ends, right-counts}
@@ -10,18 +11,21 @@ use Rattle.frames.proofs.judge.Statement.{statement}
 use Rattle.frames.proofs.judge.Tie as tie
 
 returns : tie.Need-returns
-returns c = wrong-size _ _ (c .if1 .taken)
+returns c = ap Unsound (c .no-wrong .ensures) ∙ wrong-size _ _ (c .before .if1 .taken)
 
 returns-2 : tie.Need-returns-2
-returns-2 c = wrong-ends _ _ (c .before .before .before .if1 .left) (λ e. c .if2 .taken (e ∙ sym (c .before .before .block-count .ensures)))
+returns-2 c =
+    let counted = c .before .before .before in
+    let other = c .before .if2 .taken in
+    ap Unsound (c .no-wrong2 .ensures) ∙ wrong-ends _ _ (counted .before .if1 .left) (λ e. other (e ∙ sym (counted .block-count .ensures)))
 
 array-share-prefix-words : tie.Need-array-share-prefix-words
 array-share-prefix-words c =
     let l : length (c .before .before .before .before .before .before .args .h .words) ≡ 16 = search needs in
     omega arith
 
-slice-aggregate-checks-right : tie.Need-slice-aggregate-checks-right
-slice-aggregate-checks-right c =
+slice-aggregate-wrong-blocks : tie.Need-slice-aggregate-wrong-blocks
+slice-aggregate-wrong-blocks c =
     let h = c .before .before .before .before .before .before .before .args .h in
     let l : length (h .words) ≡ 16 = search needs in
     sym (length-take-le (h .size) (h .words) (omega arith))
@@ -33,10 +37,10 @@ returns-3 c =
     let sized = ended .before .before .before in
     let a = sized .before .args in
     let counts = right-counts (a .n) (a .h) (sized .if1 .left) (ended .if2 .left ∙ ended .before .before .block-count .ensures) in
-    (c .tell .ensures ∙ rw (c .before .is-marked .ensures, c .before .before .checks-right .ensures) counts)
+    (c .tell .ensures ∙ rw (c .before .is-marked .ensures, c .before .before .wrong-blocks .ensures) counts)
 
 pub judge-spec : {M : Type 1} → statement M
 judge-spec =
     tie.close
-    (tie.spec returns (λ c κs. search needs) returns-2 array-share-prefix-words slice-aggregate-checks-right (λ c κs. search needs)
+    (tie.spec (λ c κs. search needs) returns (λ c κs. search needs) (λ c κs. search needs) returns-2 array-share-prefix-words slice-aggregate-wrong-blocks (λ c κs. search needs)
     (λ c κs. search needs) (λ c κs. search needs) returns-3)

@@ -1,5 +1,6 @@
 -- `frames::judge_slave` judges by the size that the code expects, and no such size is above 16. Assumes nothing.
 use mathlib.Core.Path.{sym, _∙_, ap}
+use Rattle.frames.specs.declared.Judgement.the-variants.{Unsound}
 use Rattle.frames.specs.Size.{wordsSaid}
 use Rattle.frames.specs.Judge.{judgedSlave}
 use Rattle.frames.proofs.Sizes.{longest}
@@ -16,9 +17,11 @@ returns c = rw (sym (c .before .before .before .before .reply-size .ensures) ∙
 
 returns-2 : tie.Need-returns-2
 unfolding judgedSlave
-returns-2 c = rw (sym (c .before .before .reply-size .ensures) ∙ ap wordsSaid (c .enum-told .given .1))
+returns-2 c =
+    let none-said = sym (c .before .before .before .reply-size .ensures) ∙ ap wordsSaid (c .before .enum-told .given .1) in
+    rw (none-said) (ap Unsound (c .no-wrong .ensures))
 
 pub judge-slave-spec : {M : Type 1} → statement M
 judge-slave-spec =
     tie.close
-    (tie.spec (λ c κs. search needs) (λ c. search needs) judge-requires (λ c. search needs) returns returns-2)
+    (tie.spec (λ c κs. search needs) (λ c. search needs) judge-requires (λ c. search needs) (λ c κs. search needs) returns returns-2)
