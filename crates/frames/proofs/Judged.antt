@@ -1,5 +1,5 @@
 -- Laws of the judgement, by the outcomes of its tests. Assumes nothing.
-use mathlib.Core.Path.{_≡_, refl}
+use mathlib.Core.Path.{_≡_, refl, sym, _∙_}
 use mathlib.Core.Bool.{Bool, true, false, _||_, true≢false}
 use mathlib.Core.List.{List}
 use Prim.Native.Nat.{ℕ}
@@ -52,3 +52,11 @@ right-byte ws cs k = go (leb (blocks (length ws)) k) refl
     go : (b : Bool) → leb (blocks (length ws)) k ≡ b → (b || eqb (getD cs k 0) (byteAt ws k)) ≡ (b || eqb (getD cs k 0) (checkAt ws k))
     go true e = refl
     go false e = rw (lt-ltb _ _ (leb-false _ _ e))
+
+-- so a block that is given its computed byte is right
+pub computed-right : (ws cs : List ℕ) (k : ℕ) → getD cs k 0 ≡ byteAt ws k → rightAt ws cs k ≡ true
+computed-right ws cs k e = sym (right-byte ws cs k) ∙ rw (eq-eqb _ _ e) (go (leb (blocks (length ws)) k))
+  where
+    go : (b : Bool) → (b || true) ≡ true
+    go true = refl
+    go false = refl

@@ -2,20 +2,20 @@
 -- source shows have that size. Assumes nothing.
 use Prim.Native.Nat.{ℕ, zero, suc, _*_, _%_, _≤_}
 use mathlib.Core.Path.{_≡_, refl, sym, _∙_, ap}
-use mathlib.Core.Bool.{Bool, true, false, cond, not, _&&_, _||_, and-eq-true-iff}
+use mathlib.Core.Bool.{Bool, true, false, cond, not, _&&_, and-eq-true-iff}
 use mathlib.Core.List.{List, [], _∷_}
 use mathlib.Core.Option.{Option, none, some}
 use native.Mathlib.Omega.{arith}
-use lib.Dec.{eqb, leb}
-use lib.ListN.{length, getD, drop, replicate, length-drop, length-replicate}
+use lib.Dec.{eqb}
+use lib.ListN.{length, drop, replicate, length-drop, length-replicate}
 use lib.Seq.{length-take-le}
 use borrow.Author.Tests.{eq-eqb, eqb-true, ne-eqb, leb-true}
-use Rattle.sequence.specs.Frame.{blocks, byteAt, frameChecks}
+use Rattle.sequence.specs.Frame.{blocks, frameChecks}
 use Rattle.frames.specs.declared.Judgement.the-variants.{Sound}
 use Rattle.frames.specs.Hearing.{wordsOf}
 use Rattle.frames.specs.Size.{sizes, expectedOf}
-use Rattle.frames.specs.Judge.{countsRight, rightAt, wrongAt, wrongOf, judged, judgedSlave}
-use Rattle.frames.proofs.Judged.{right-byte}
+use Rattle.frames.specs.Judge.{countsRight, wrongAt, wrongOf, judged, judgedSlave}
+use Rattle.frames.proofs.Judged.{computed-right}
 use Rattle.frames.proofs.Sizes.{longest}
 use Rattle.model.specs.Layout.{Areas, areasFit, portAt, flagsOf, partOf}
 use Rattle.model.specs.Ports.{codeOf, addressOf, hasPorts, sizeOf, validPage, Standing, standingOf, standing}
@@ -31,14 +31,6 @@ use Rattle.model.proofs.Standings.{standing-at}
 
 silent : {ws : List ℕ} → none ≡ some ws → ⊥
 silent e = let z : _≡_ {A = ℕ} 0 1 = cc in omega arith
-
-or-true : (b : Bool) → (b || true) ≡ true
-or-true true = refl
-or-true false = refl
-
--- each check byte of a frame that is sent is right
-sent-right : (ws : List ℕ) (k : ℕ) → getD (frameChecks ws .bytes) k 0 ≡ byteAt ws k → rightAt ws (frameChecks ws .bytes) k ≡ true
-sent-right ws k e = sym (right-byte ws (frameChecks ws .bytes) k) ∙ rw (eq-eqb _ _ e) (or-true (leb (blocks (length ws)) k))
 
 -- what a line hears of it are the words
 sent-words : (ws : List ℕ) → length ws ≤ 16 → wordsOf (sent ws) ≡ ws
@@ -56,10 +48,10 @@ sent-sound code n ws e l =
       eq-eqb (length ws) n l,
       ap blocks l,
       eq-eqb (blocks n) (blocks n) refl,
-      sent-right ws 0 refl,
-      sent-right ws 1 refl,
-      sent-right ws 2 refl,
-      sent-right ws 3 refl,
+      computed-right ws (frameChecks ws .bytes) 0 refl,
+      computed-right ws (frameChecks ws .bytes) 1 refl,
+      computed-right ws (frameChecks ws .bytes) 2 refl,
+      computed-right ws (frameChecks ws .bytes) 3 refl,
     )
 
 -- ---- the words of a port have its size

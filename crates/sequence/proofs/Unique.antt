@@ -16,16 +16,16 @@ use Rattle.sequence.proofs.Linear.{pushes-xor}
 use Rattle.sequence.proofs.Cat.{pushes-cat}
 use Rattle.sequence.proofs.Below.{below, below-at}
 
--- zeros in front do nothing
-
-zeros : (j : ℕ) → pushes j 0 0 ≡ 0
+-- zeros leave nothing
+pub zeros : (j : ℕ) → pushes j 0 0 ≡ 0
 unfolding pushes push
 zeros zero = refl
 zeros (suc j) =
     let e : 0 / 2 ^ j % 2 ≡ 0 = ap (λ (n : ℕ). n % 2) (zero-div (2 ^ j)) in
     ap (λ (n : ℕ). pushes j (push 0 n) 0) e ∙ zeros j
 
-front : (j k n : ℕ) → n < 2 ^ k → pushes (j + k) 0 n ≡ pushes k 0 n
+-- zeros in front of other digits do nothing
+pub front : (j k n : ℕ) → n < 2 ^ k → pushes (j + k) 0 n ≡ pushes k 0 n
 front j k n h =
     let e : n ≡ 0 * 2 ^ k + n = omega arith in
     ap (pushes (j + k) 0) e ∙ pushes-cat j k 0 0 n h ∙ ap (λ (r : ℕ). pushes k r n) (zeros j)
