@@ -1,5 +1,6 @@
 /* Every field of the structs by its name: each is brought to a number that no field beside it has, through the calls, and read. A header
- * whose fields lie in another order does not pass; nor does one whose marks of blocks do. run.sh builds and runs it. */
+ * whose fields lie in another order does not pass; nor does one whose marks of blocks or bits of a status reply do. run.sh builds and runs
+ * it. */
 #include "tolvendrum.h"
 
 #include <stdio.h>
@@ -103,6 +104,20 @@ static void lines_and_device(void)
     IS(refused.controller.device.address, 4000);
 }
 
+/* After a line timeout line B is trusted and RLD set; the first poll clears RLD, the second switches to line A. */
+static void status_replies(void)
+{
+    static const uint16_t replies[] = {TOLVENDRUM_STATUS_RLD, 0, TOLVENDRUM_STATUS_LAA};
+    tolvendrum_controller c = quiet(tolvendrum_set_status(tolvendrum_reset(), 5).controller, 2130);
+    for (int k = 0; k < 3; k++) {
+        tolvendrum_answered r = hear(c, master(15 * 4096));
+        IS(r.reply.size, 1);
+        IS(r.reply.words[0], replies[k] | 5);
+        c = r.controller;
+        IS(c.device.status, 5);
+    }
+}
+
 static void counts_and_groups(void)
 {
     tolvendrum_controller c = tolvendrum_reset();
@@ -202,6 +217,7 @@ int main(void)
     blocks();
     exchange_and_times();
     lines_and_device();
+    status_replies();
     counts_and_groups();
     printf("fields: %s\n", failures ? "wrong" : "each where its name says");
     return failures != 0;

@@ -124,6 +124,11 @@ FLAG_WORDS = (
     "The bits of a port's word 1, for port p word 4p + 1 of `ports`: the valid page, whether it was ever filled, its side, and the status bits.",
     "The last four say which blocks of an unsound reply had a wrong check byte, if its counts were right; CRC is set exactly if one is.",
 )
+STATUS = ("STATUS_LAA", "STATUS_RLD")
+STATUS_WORDS = (
+    "The bits of a status reply that are ours, whatever the host set there: LAA and RLD as they are before the poll switches the line and",
+    "clears RLD; an RLD that the poll itself sets is told. Each other bit is that of the status word.",
+)
 
 
 def c_numbers():
@@ -134,6 +139,9 @@ def c_numbers():
     yield ""
     yield "/* %s\n * %s */" % FLAG_WORDS
     yield from c_enum([("PORT_" + name, value) for name, value in constants(FLAGS, "constants", "src", "lib.rt")], "0x%04x")
+    yield ""
+    yield "/* %s\n * %s */" % STATUS_WORDS
+    yield from c_enum(constants(STATUS, "constants", "src", "lib.rt"), "0x%04x")
 
 
 def c_bits():
@@ -191,6 +199,10 @@ def rust_numbers():
     for name, value in constants(FLAGS, "constants", "src", "lib.rt"):
         yield "    pub const %s: u16 = 0x%04x;" % (name, value)
     yield "}"
+    yield ""
+    yield "/// %s\n/// %s" % STATUS_WORDS
+    for name, value in constants(STATUS, "constants", "src", "lib.rt"):
+        yield "pub const %s: u16 = 0x%04x;" % (name, value)
 
 
 def rust_bits():

@@ -33,7 +33,7 @@
 #include <stdint.h>
 
 /* The version of this interface. docs/INTERFACE.md says when each number grows. */
-#define TOLVENDRUM_VERSION_MAJOR 2
+#define TOLVENDRUM_VERSION_MAJOR 3
 #define TOLVENDRUM_VERSION_MINOR 0
 
 #ifdef __cplusplus
@@ -79,6 +79,13 @@ enum {
     TOLVENDRUM_PORT_SECOND_BLOCK = 0x0400,
     TOLVENDRUM_PORT_THIRD_BLOCK = 0x0800,
     TOLVENDRUM_PORT_FOURTH_BLOCK = 0x1000
+};
+
+/* The bits of a status reply that are ours, whatever the host set there: LAA and RLD as they are before the poll switches the line and
+ * clears RLD; an RLD that the poll itself sets is told. Each other bit is that of the status word. */
+enum {
+    TOLVENDRUM_STATUS_LAA = 0x0080,
+    TOLVENDRUM_STATUS_RLD = 0x0040
 };
 /* end */
 
@@ -352,7 +359,8 @@ tolvendrum_controller tolvendrum_reset(void);
 /* The device address, 0 to 4095. */
 tolvendrum_told tolvendrum_set_address(tolvendrum_controller c, uint16_t address);
 
-/* The status word that a status poll to our address is answered with. Until it is set we do not answer. */
+/* The status word that a status poll to our address is answered with, but for TOLVENDRUM_STATUS_LAA and TOLVENDRUM_STATUS_RLD, which are
+ * ours. Until it is set we do not answer. */
 tolvendrum_told tolvendrum_set_status(tolvendrum_controller c, uint16_t word);
 
 /* The reply time in bit times: 32, 64, 96 or 128. The next sound master frame adopts it. */

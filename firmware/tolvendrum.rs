@@ -169,6 +169,11 @@ pub mod port {
     pub const THIRD_BLOCK: u16 = 0x0800;
     pub const FOURTH_BLOCK: u16 = 0x1000;
 }
+
+/// The bits of a status reply that are ours, whatever the host set there: LAA and RLD as they are before the poll switches the line and
+/// clears RLD; an RLD that the poll itself sets is told. Each other bit is that of the status word.
+pub const STATUS_LAA: u16 = 0x0080;
+pub const STATUS_RLD: u16 = 0x0040;
 // end
 
 // from the crates: bits

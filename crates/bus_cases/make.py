@@ -5,7 +5,7 @@ usage: make.py            write both files, and say how many lines they have
        make.py --check    write nothing; exit with 1 where a file is not what would be written
 
 The cases stand in py/: host.py, quiet.py, bus.py, lines.py, damage.py and interrupts.py. What is to be printed comes from
-py/controller.py and py/world.py, which are written from document 01 and from nothing of the crates that the program runs.
+py/controller.py and py/world.py, which are written from documents 01 and 02 and from nothing of the crates that the program runs.
 """
 import os
 import sys

@@ -44,6 +44,12 @@ impl Controller {
         0
     }
 
+    /// The status word that a poll is answered with now (W-201): the host's, with our LAA
+    /// over its bit 7 and our RLD over its bit 6. None until the host sets one.
+    pub(crate) fn status_reply(&self) -> Option<u16> {
+        self.status_word.map(|word| word & !0x00C0 | (self.laa as u16) << 7 | (self.rld as u16) << 6)
+    }
+
     /// The choice is adopted at the next sound master frame.
     pub fn set_reply_time(&mut self, time: u16) -> u16 {
         number(refuse_unless([32, 64, 96, 128].contains(&time), RANGE).map(|()| self.chosen = time))

@@ -65,9 +65,11 @@ fn sound_master(c: &mut Controller, areas: &Areas, word: u16, observed: &Hearing
     c.line_count = 0;
     c.adopted = c.chosen;
 
+    // A status reply tells LAA and RLD after rule 4 and before rule 3 (W-201).
+    c.rule_4(observed);
     let words = match source {
         Some(port) => Some(areas.valid_words(port)),
-        None if status_poll => c.status_word.map(|status_word| vec![status_word]),
+        None if status_poll => c.status_reply().map(|status_word| vec![status_word]),
         None => None,
     };
     c.exchange = match (slave_size(f_code), &words) {
@@ -75,8 +77,6 @@ fn sound_master(c: &mut Controller, areas: &Areas, word: u16, observed: &Hearing
         (_, Some(_)) => Exchange::Done,
         (_, None) => Exchange::Waiting(word),
     };
-
-    c.rule_4(observed);
     if status_poll {
         c.rule_3();
     }

@@ -1,7 +1,8 @@
-//! A plain reference of the step model that document 01-scope.md describes, written
-//! from the document alone so that another implementation can be compared with it
-//! call by call. It aims at being easy to hold against the text: no tables, nothing
-//! computed ahead. Decisions taken where the text leaves room are in NOTES.md.
+//! A plain reference of the step model that 01-scope.md describes, with W-201 and W-206
+//! of 02-change-requests.md, written from the documents alone so that another
+//! implementation can be compared with it call by call. It aims at being easy to hold
+//! against the text: no tables, nothing computed ahead. Decisions taken where the text
+//! leaves room are in NOTES.md.
 
 pub mod areas; // Memory lent to the calls
 pub mod controller; // The exchange, and the host's settings

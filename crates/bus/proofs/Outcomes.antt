@@ -1,6 +1,6 @@
 -- The outcomes of a bus event and of quiet time, by the refusals that the code computes. Assumes nothing.
 use Prim.Native.Nat.{ℕ}
-use mathlib.Core.Path.{_≡_, refl, ap}
+use mathlib.Core.Path.{_≡_, refl, _∙_, ap}
 use mathlib.Core.Bool.{Bool, true, false, cond, not, _&&_, _||_}
 use mathlib.Core.List.{List, []}
 use mathlib.Core.Option.{Option, none, some}
@@ -17,12 +17,13 @@ use Rattle.model.specs.declared.Sought.the-variants.{Nothing, Damaged, Port}
 use Rattle.model.specs.Layout.{Areas, areas, areasFit, entry, portAt}
 use Rattle.model.specs.Ports.{codeOf, addressOf, hasPorts, wellFormed, seek, standingOf, apply}
 use Rattle.model.specs.Lines.{trusted, observed}
-use Rattle.model.specs.Event.{World, world, heardBy, raisedByReply, silent, spoken}
-use Rattle.model.proofs.Tables.{answerOf, effectOf, controllerAfter}
+use Rattle.model.specs.Event.{World, world, heardBy, deviceWith, raisedByReply, silent, spoken}
+use Rattle.model.proofs.Tables.{answerOf, linesFound, effectOf, controllerAfter}
 use Rattle.model.specs.Quiet.{ticks, dueWithin}
 use Rattle.model.specs.Calls.{Call, hear, quiet, neededFor, wordOfHeard, entryAbove, illFormed, refusal, effect, step, answer}
 use Rattle.model.specs.Calls.{Outcome, outcome}
 use Rattle.model.proofs.Tables.{hear-controller, hear-effect, hear-answer}
+use Rattle.model.proofs.StatusReply.{exchange-unmoved}
 use Rattle.bus_events.specs.Raised.{replyBits}
 use Rattle.bus_quiet.specs.Quiet.{dueIn}
 use Rattle.bus_quiet.proofs.Within.{due-in}
@@ -90,15 +91,16 @@ accepted-heard : (c : Controller) (m : Areas) (h : Heard) (t o : Hearing)
     → withIndex (m .index) (acceptedWith (world c (indexed [] m)) (soughtBy (m .index) (m .ports) (wordOfHeard h)) h t o)
     ≡ record {
       refusal = 0;
-      reply = spoken (answerOf (c .device) m h);
+      reply = spoken (answerOf (deviceWith (linesFound (c .lines) h t o) (c .device)) m h);
       world = world (controllerAfter c m h t o) (apply (effectOf m h t) m);
     }
 unfolding standingOf apply
 accepted-heard c m NoFrame t o = refl
 accepted-heard c m Unsound t o = refl
 accepted-heard c m (Master w) t o =
-    ap (λ (r : Met). record { refusal = 0; reply = r .reply; world = world (afterWith c (Master w) t o (r .exchange) 0) m })
-    (met-found m w (c .device))
+    let l = linesFound (c .lines) (Master w) t o in
+    ap (λ (r : Met). record { refusal = 0; reply = r .reply; world = world (afterWith c (Master w) l (r .exchange) 0) m })
+    (met-found m w (deviceWith l (c .device)) ∙ rw (exchange-unmoved l (c .device) m w))
 accepted-heard c m (Reply w j) t o =
     rw (
       bits-found m w j,

@@ -12,6 +12,7 @@ use areas::layout;
 use bus_events::counts;
 use bus_events::heard;
 use bus_events::raised;
+use bus_lines::status::device_with;
 use bus_ports::found;
 use bus_ports::frame::silent;
 use bus_ports::need::event_refusal;
@@ -25,15 +26,15 @@ use logic::either;
 use model::Controller;
 use model::Exchange;
 use model::Heard;
+use model::Lines;
 use model::Sought;
 
-// The controller after an event: each part by what was heard.
-fn after(c: Controller, h: Heard, t: Hearing, o: Hearing, x: Exchange, interrupt: u16) -> Controller
-    ensures { λ r. ⌜ r ≡ afterWith c h t o x interrupt ⌝ }
+// The controller after an event: each part by what was heard. Rule 3 finds the lines `l`.
+fn after(c: Controller, h: Heard, l: Lines, x: Exchange, interrupt: u16) -> Controller
+    ensures { λ r. ⌜ r ≡ afterWith c h l x interrupt ⌝ }
 {
     let before = c.exchange;
     let times = c.times;
-    let l = c.lines;
     let n = c.counts;
     let g0 = c.group0;
     let g1 = c.group1;
@@ -41,7 +42,7 @@ fn after(c: Controller, h: Heard, t: Hearing, o: Hearing, x: Exchange, interrupt
     Controller {
         exchange: x,
         times: heard::times_after(times, h),
-        lines: heard::lines_after(device, l, h, t, o),
+        lines: bus_lines::rule3(heard::polls(device, h), l),
         counts: counts::counts_after(n, h),
         group0: raised::raise0(before, times, h, interrupt, g0),
         group1: raised::raise1(n, h, g1),
@@ -49,7 +50,8 @@ fn after(c: Controller, h: Heard, t: Hearing, o: Hearing, x: Exchange, interrupt
     }
 }
 
-// An event that is accepted, with what was sought for it: what was heard is met and taken.
+// An event that is accepted, with what was sought for it: what was heard is met and taken. A status poll is told the lines as rule 3 finds
+// them.
 fn accept(
     ports: &mut [u16],
     page0: &mut [u16],
@@ -65,8 +67,11 @@ fn accept(
         acceptedWith (world c (areas [] (now (ports .entry)) (now (page0 .entry)) (now (page1 .entry)))) s h t o
         ⌝ }
 {
-    let device = c.device;
     let x = c.exchange;
+    let before = c.lines;
+    let l = heard::lines_found(before, h, t, o);
+    let d = c.device;
+    let device = device_with(l, d);
     let met = meet_heard(ports, page0, page1, device, found::port_of(s), x, h);
     let sink = found::sink_of(ports, s);
     let interrupt = found::interrupt_at(ports, sink);
@@ -75,7 +80,7 @@ fn accept(
     let reply = met.reply;
     Answered {
         refusal: 0,
-        controller: after(c, h, t, o, next, interrupt),
+        controller: after(c, h, l, next, interrupt),
         reply,
     }
 }

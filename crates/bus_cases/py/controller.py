@@ -21,6 +21,9 @@ STATUS_BITS = STO | TERR | CRC | SQE | ALO | sum(BLOCKS)
 # "Refusals: 6 now tests bits 13 to 15 only."
 ZERO_BITS = 2**13 | 2**14 | 2**15
 
+# The places of LAA and RLD in a status reply, by 001, 2.9.14.2, and IEC 61375-3-1: bits 7 and 6.
+LAA, RLD = 2**7, 2**6
+
 # "Group 0 from bit 15: EMF ESF DMF DSF AMFX MFC SFC RTI BTI DTI7 .. DTI1."
 EMF, ESF, DMF, DSF, AMFX, MFC, SFC, RTI, BTI = (2**bit for bit in range(15, 6, -1))
 # "Group 1 from bit 15: TI2 XI3 XI2 XQE RQE XQ1C XQ0C RQC FEV, 6 to 3 unused and zero, TI1 XI1 XI0."
@@ -158,6 +161,15 @@ class Controller:
             self.groups[1].raise_bit(FEV)
         if not sound:
             self.ec = min(self.ec + 1, 65535)
+
+    def status_reply(self):
+        """ "Put our own at the places IEC 61375-3-1 gives, over what the host wrote there" """
+        word = self.status & ~(LAA | RLD)
+        if self.laa:
+            word |= LAA
+        if self.rld:
+            word |= RLD
+        return word
 
     def switch(self, sets_rld):
         """ "Switching turns LAA. With SLM no rule switches or sets RLD." """

@@ -1,6 +1,8 @@
-"""The two lines: each of document 01's five rules, on both trusted lines, with and without RLD and SLM."""
+"""The two lines: each of document 01's five rules, on both trusted lines, with and without RLD and SLM; and what a status reply tells of
+them."""
 from itertools import product
 
+from controller import checks_of
 from script import master, noise, silence, slave
 
 # A status poll to device address 0.
@@ -118,6 +120,58 @@ def rule_4(s):
     on(s, slave(1), slave(1, sqe=True))
 
 
+def polled(s, reply, observed=None, laa=None, word=POLL):
+    """A status poll that the trusted line hears, and the observed line too where nothing else is said. The word of its reply, None for
+    silence, and LAA afterwards are the request's numbers; RLD is then clear."""
+    on(s, master(word), observed or master(word))
+    assert s.world.reply == (None if reply is None else ([reply], checks_of([reply]))), s.world.reply
+    assert (s.world.controller.laa, s.world.controller.rld) == (laa, False)
+
+
+def status_replies(s):
+    s.begin("Status replies: 0000 on line A, then on line B")
+    s.status(0)
+    polled(s, 0x0080, laa=False)
+    polled(s, 0x0000, laa=True)
+    for word, reply in ((0xFFFF, 0xFFBF), (0xFF3F, 0xFFBF), (0x1234, 0x12B4)):
+        s.begin("The host's word is %04X: the reply is %04X" % (word, reply))
+        s.status(word)
+        polled(s, reply, laa=False)
+    s.begin("A status reply tells an RLD that rule 4 sets in the poll itself")
+    s.status(0)
+    polled(s, 0x00C0, silence(), laa=True)
+    polled(s, 0x0080, laa=False)
+    for observed in (noise(), master(POLL, sqe=True), master(POLL, violation=True)):
+        polled(s, 0x0040, observed, laa=False)
+    s.begin("With SLM rule 4 sets none")
+    s.status(0)
+    s.single(1)
+    polled(s, 0x0080, silence(), laa=True)
+    s.begin("A line timeout has switched and set RLD")
+    s.status(0)
+    s.quiet(2130)
+    polled(s, 0x0040, laa=False)
+    s.status(0xFFFF)
+    polled(s, 0xFF3F, laa=True)
+    s.begin("No status set: silence, and rule 3 acts all the same")
+    polled(s, None, laa=False)
+    assert s.world.controller.exchange == "waiting"
+    polled(s, None, silence(), laa=False)
+    s.begin("A status poll of another address")
+    s.status(0)
+    polled(s, None, laa=True, word=POLL + 1)
+    for laa, rld in product((True, False), (False, True)):
+        prepare(s, "A status reply", laa, rld, False)
+        for word in (0, 0xFFFF):
+            s.status(word)
+            on(s, master(POLL), master(POLL))
+    s.begin("Each bit but 7 and 6 is the host's")
+    for bit in range(16):
+        s.status(2**bit)
+        s.event(master(POLL))
+        assert s.world.reply[0][0] & 0xFF3F == 2**bit & 0xFF3F
+
+
 def rule_5(s):
     for laa, rld, slm in each_state():
         prepare(s, "Rule 5: LS filed", laa, rld, slm)
@@ -166,4 +220,5 @@ def run(s):
     rule_2(s)
     rule_3(s)
     rule_4(s)
+    status_replies(s)
     rule_5(s)

@@ -160,6 +160,7 @@ class World:
         if not rule_1_acted:
             c.line_rule_4(trusted, observed)
         if polled:
+            self.reply_status()
             c.line_rule_3()
 
     def unsound_master(self):
@@ -185,11 +186,14 @@ class World:
             c.exchange = "idle"
         elif source and self.ports[4 * source + 1] & EVER:
             self.answer(self.valid_words(source))
-        elif polled and c.status is not None:
-            self.answer([c.status])
         else:
             c.exchange, c.waiting = "waiting", word
         return polled
+
+    def reply_status(self):
+        """ "Code 15 with our device address and a status word set by the host: reply it; done." "with the values before rule 3 acts" """
+        if self.controller.status is not None:
+            self.answer([self.controller.status_reply()])
 
     def answer(self, words):
         self.reply = (words, checks_of(words))

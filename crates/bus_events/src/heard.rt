@@ -12,7 +12,7 @@ use model::Lines;
 use model::Times;
 ghost use mathlib.Core.Path.{_≡_};
 ghost use Rattle.model.specs.Event.{asMaster, asSlave, heard};
-ghost use Rattle.model.proofs.Tables.{timesAfter, disturbs, polls, linesAfter};
+ghost use Rattle.model.proofs.Tables.{timesAfter, disturbs, polls, linesFound};
 ghost use Rattle.frames.specs.Judge.{judgedMaster, isSound};
 
 // A master frame: its first word if it is sound.
@@ -104,19 +104,15 @@ pub fn polls(d: Device, h: Heard) -> bool
     }
 }
 
-// Rules 1, 4 and 3, in this order; `l` are the lines at the start of the event.
-pub fn lines_after(d: Device, l: Lines, h: Heard, t: Hearing, o: Hearing) -> Lines
-    ensures { λ r. ⌜ r ≡ linesAfter d l h t o ⌝ }
+// Rules 1 and 4, in this order: the lines as rule 3 finds them. `l` are the lines at the start of the event.
+pub fn lines_found(l: Lines, h: Heard, t: Hearing, o: Hearing) -> Lines
+    ensures { λ r. ⌜ r ≡ linesFound l h t o ⌝ }
 {
     let unsound = disturbs(h);
-    let polled = polls(d, h);
     let k = t.kind;
     let poorer = both(
         both(!bus_lines::acts1(unsound, l), bus_lines::is_frame(k)),
         bus_lines::is_poor(o),
     );
-    bus_lines::rule3(
-        polled,
-        bus_lines::rule4(poorer, bus_lines::rule1(unsound, l)),
-    )
+    bus_lines::rule4(poorer, bus_lines::rule1(unsound, l))
 }

@@ -1,29 +1,23 @@
--- Each rule field by field, as the code computes it. Assumes nothing.
-use mathlib.Core.Path.{_≡_, refl, _∙_, ap}
+-- Each rule field by field, as the code computes it; rule 4 so is the model's `rule4-sets`. Assumes nothing.
+use mathlib.Core.Path.{_≡_, refl}
 use mathlib.Core.Bool.{Bool, true, false, cond, not, _&&_}
 use Rattle.model.specs.declared.Lines.{Lines}
-use Rattle.model.specs.Lines.{lines, switched, withRLD, unlessSLM, acts5, rule1, rule2, rule3, rule4, rule5}
-use Rattle.bus_lines.specs.Fields.{switchIf, disturbedIf, switchAndSet}
+use Rattle.model.specs.Lines.{lines, switched, withRLD, unlessSLM, acts5, rule1, rule2, rule3, rule5}
+use Rattle.bus_lines.specs.Fields.{switchIf, switchAndSet}
 
--- RLD is set and LAA becomes x on an occasion, unless SLM is set
-by-slm : (b : Bool) (l : Lines) (x : Bool)
-    → lines (cond (b && not (l .slm)) x (l .laa)) (disturbedIf b l) (l .ls) (l .slm)
-    ≡ cond b (unlessSLM (withRLD true (lines x (l .rld) (l .ls) (l .slm))) l) l
-by-slm b l x = go b (l .laa) (l .rld) (l .ls) (l .slm)
+-- the lines switch and RLD is set on an occasion, unless SLM is set
+both-fields : (b : Bool) (l : Lines) → switchAndSet b l ≡ cond b (unlessSLM (withRLD true (switched l)) l) l
+both-fields b l = go b (l .laa) (l .rld) (l .ls) (l .slm)
   where
     go : (b a r s m : Bool)
-        → lines (cond (b && not m) x a) (disturbedIf b (lines a r s m)) s m
-        ≡ cond b (unlessSLM (withRLD true (lines x r s m)) (lines a r s m)) (lines a r s m)
+        → switchAndSet b (lines a r s m)
+        ≡ cond b (unlessSLM (withRLD true (switched (lines a r s m))) (lines a r s m)) (lines a r s m)
     go true a true s true = refl
     go true a true s false = refl
     go true a false s true = refl
     go true a false s false = refl
     go false a true s m = refl
     go false a false s m = refl
-
--- so where the lines switch
-both-fields : (b : Bool) (l : Lines) → switchAndSet b l ≡ cond b (unlessSLM (withRLD true (switched l)) l) l
-both-fields b l = by-slm b l (not (l .laa))
 
 -- rule 1 switches and sets RLD, on its occasion and with RLD clear
 pub fields1 : (o : Bool) (l : Lines) → switchAndSet (o && not (l .rld)) l ≡ rule1 o l
@@ -47,15 +41,6 @@ fields3 p l = go p (l .laa) (l .rld) (l .ls) (l .slm)
     go true a false s true = refl
     go true a false s false = refl
     go false a r s m = refl
-
--- rule 4 sets RLD where the observed line is the poorer one
-pub fields4 : (p : Bool) (l : Lines) → lines (l .laa) (disturbedIf p l) (l .ls) (l .slm) ≡ rule4 p l
-unfolding rule4
-fields4 p l = ap (λ (a : Bool). lines a (disturbedIf p l) (l .ls) (l .slm)) (either (p && not (l .slm))) ∙ by-slm p l (l .laa)
-  where
-    either : (c : Bool) → l .laa ≡ cond c (l .laa) (l .laa)
-    either true = refl
-    either false = refl
 
 -- rule 5 switches where it acts, and clears LS
 pub fields5 : (l : Lines) → lines (cond (acts5 l) (not (l .laa)) (l .laa)) (l .rld) (cond (acts5 l) false (l .ls)) (l .slm) ≡ rule5 l

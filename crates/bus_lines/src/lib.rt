@@ -1,5 +1,7 @@
-// Document 01, "Two lines": the trusted and the observed line, and the five rules, each as the crate `model` defines it. Nothing is asked
-// of a caller, and no area is touched.
+// Document 01, "Two lines": the trusted and the observed line, and the five rules, each as the crate `model` defines it; and what a status
+// reply tells of the lines (`status`). Nothing is asked of a caller, and no area is touched.
+pub mod status;
+
 use frames::Hearing;
 use frames::Kind;
 use logic::both;

@@ -46,7 +46,7 @@ fn answered(words: &[u16]) -> Met
 }
 
 // A sound master frame, with port p for its word. Codes 5, 6, 7, 10, 11: idle. A filled source replies its valid words, a status poll to
-// our address the status word that the host set: done. Otherwise waiting.
+// our address the status word, if the host set one: done. Otherwise waiting.
 fn meet<'a>(ports: &[u16], page0: &'a [u16], page1: &'a [u16], d: Device, p: u16, w: u16) -> Met
     ensures { λ r. ⌜ r ≡ metBy d (standingAt (areas [] (now (ports .entry)) (now (page0 .entry)) (now (page1 .entry))) p) w ⌝ }
 {

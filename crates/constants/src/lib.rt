@@ -39,6 +39,11 @@ pub const LAST_EC: u16 = 65535;
 // The F-code of a status poll.
 pub const STATUS_CODE: u16 = 15;
 
+// The weights of LAA and RLD in the status word that a poll is answered with.
+pub const STATUS_LAA: u16 = 128;
+
+pub const STATUS_RLD: u16 = 64;
+
 // The lengths of the index table, of the port words and of a page.
 pub const INDEX: usize = 4096;
 

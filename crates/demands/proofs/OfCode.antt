@@ -13,12 +13,13 @@ use Rattle.interrupts.specs.Names.{SFC}
 use Rattle.model.specs.declared.Answer.{Answer}
 use Rattle.model.specs.declared.Answer.the-variants.{Never, Refused}
 use Rattle.model.specs.Layout.{Areas}
+use Rattle.model.specs.Lines.{LineBits}
 use Rattle.model.specs.Ports.{codeOf, addressOf, hasPorts, Standing, standing, view}
 use Rattle.model.specs.Event.{World, interruptOf, raiseAll, spoken}
 use Rattle.model.specs.Calls.{Call, hear, step, answer, asked, refusalOf, fetched, start}
 use Rattle.model.specs.Past.{after, Typed, Accepted, onTrusted, firstWord, lastSettings, answers, Opening, openingOf, answersSince}
-use Rattle.model.specs.Past.{writesSince, lastOf, sourceTold, statusTold, replyIn, fillings, viewWith, toldView, shownWords, takenIf}
-use Rattle.model.specs.Past.{framesJudged, framesUnsound}
+use Rattle.model.specs.Past.{writesSince, lastOf, sourceTold, linesPolled, statusTold, replyIn, fillings, viewWith, toldView, shownWords}
+use Rattle.model.specs.Past.{takenIf, framesJudged, framesUnsound}
 use Rattle.model.specs.Damage.{SoundMaster}
 use Rattle.model.proofs.Demands as demand
 use Rattle.model.proofs.Empty.{empty-exactly as empty-of}
@@ -94,10 +95,18 @@ module _ {past : List Call} {s : World} (calls : Ran past s) where
         → r ≡ spoken (sourceTold past (firstWord heardNow) (openingOf past (addressOf (firstWord heardNow))))
     data-replied m p = sym spoke ∙ ap spoken (demand.data-reply past all a b m p)
 
-    -- A status reply holds the status word last set.
-    pub status-replied : SoundMaster heardNow → codeOf (firstWord heardNow) ≡ 15
-        → addressOf (firstWord heardNow) ≡ lastSettings past .address → r ≡ spoken (statusTold (lastSettings past .status))
-    status-replied m p q = sym spoke ∙ ap spoken (demand.status-reply past all a b m p q)
+    module _ (m : SoundMaster heardNow) (poll : codeOf (firstWord heardNow) ≡ 15)
+        (ours : addressOf (firstWord heardNow) ≡ lastSettings past .address) where
+      -- A status reply holds the status word last set, with LAA and RLD as the poll finds them.
+      pub status-replied : r ≡ spoken (statusTold (linesPolled past a b) (lastSettings past .status))
+      status-replied = sym spoke ∙ ap spoken (demand.status-reply past all a b m poll ours)
+
+      -- Bit by bit: LAA and RLD at their places, and each other bit the host's.
+      pub status-bits : (w : ℕ) → lastSettings past .status ≡ some w
+          → (x : ℕ) × (r ≡ spoken (some (x ∷ []))) × LineBits (linesPolled past a b) w x
+      status-bits w e =
+          let told = demand.status-bits past all a b m poll ours w e in
+          (told .0, sym spoke ∙ ap spoken (told .1), told .2)
 
   -- FC is the number of judged frames, modulo 65,536.
   pub fc-counted : s .controller .counts .fc ≡ framesJudged past % 65536

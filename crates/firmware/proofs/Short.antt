@@ -110,7 +110,7 @@ heard-short d m Stray = tt
 
 answer-short : (c : Call) (s : World) → Short (answer c s)
 unfolding answer
-answer-short (hear a b) s = rw (hear-answer s a b) (heard-short (s .controller .device) (s .areas) (heardBy (s .controller) a b))
+answer-short (hear a b) s = rw (hear-answer s a b) (heard-short _ (s .areas) (heardBy (s .controller) a b))
 answer-short (quiet n) s = tt
 answer-short (openPort a p code sink i) s = tt
 answer-short (closePort a) s = tt

@@ -61,7 +61,7 @@ pub extern "C" fn tolvendrum_set_address(c: FlatController, a: u16) -> FlatTold
     flat_told(state::is_ours(c), t, c)
 }
 
-// The status word that a poll of our address is answered with.
+// The status word that a poll of our address is answered with, with LAA and RLD in it.
 #[no_mangle]
 pub extern "C" fn tolvendrum_set_status(c: FlatController, w: u16) -> FlatTold
     ensures { λ r. ⌜ r ≡ setThrough (ours c) (status w) c ⌝ }

@@ -3,7 +3,7 @@
 use Prim.Native.Nat.{ℕ, _%_}
 use mathlib.Core.Path.{_≡_, refl, _∙_, subst}
 use mathlib.Core.Bool.{Bool, true, false}
-use mathlib.Core.List.{List, _∷_}
+use mathlib.Core.List.{List, [], _∷_}
 use mathlib.Core.Option.{some}
 use native.Mathlib.Omega.{arith}
 use lib.ListN.{length}
@@ -11,11 +11,12 @@ use Rattle.frames.specs.declared.Hearing.{Hearing}
 use Rattle.frames.specs.Hearing.{wordsOf}
 use Rattle.interrupts.specs.Names.{SFC}
 use Rattle.model.specs.Layout.{Areas, areasFit}
+use Rattle.model.specs.Lines.{LineBits}
 use Rattle.model.specs.Ports.{codeOf, addressOf, hasPorts, Standing, standing, view}
 use Rattle.model.specs.Event.{World, world, interruptOf, raiseAll, spoken}
 use Rattle.model.specs.Calls.{Call, hear, quiet, openPort, closePort, writePort, readPort, setting}
 use Rattle.model.specs.Past.{Typed, onTrusted, firstWord, lastSettings, answers, Opening, openingOf, answersSince, writesSince, lastOf}
-use Rattle.model.specs.Past.{sourceTold, statusTold, replyIn, viewWith, toldView, takenIf}
+use Rattle.model.specs.Past.{sourceTold, linesPolled, statusTold, replyIn, viewWith, toldView, takenIf}
 use Rattle.model.specs.Damage.{SoundMaster}
 use Rattle.model.proofs.Demands.{shaped}
 use Rattle.demands.specs.Made.{Made}
@@ -88,10 +89,16 @@ module _ {past : List Call} {f : FlatController} {m : Areas} (calls : Exported p
         → h ≡ spoken (sourceTold past (firstWord heardNow) (openingOf past (addressOf (firstWord heardNow))))
     data-replied = demand.data-replied (ran calls) made
 
-    -- A status reply holds the status word last set.
-    pub status-replied : SoundMaster heardNow → codeOf (firstWord heardNow) ≡ 15
-        → addressOf (firstWord heardNow) ≡ lastSettings past .address → h ≡ spoken (statusTold (lastSettings past .status))
-    status-replied = demand.status-replied (ran calls) made
+    module _ (sound : SoundMaster heardNow) (poll : codeOf (firstWord heardNow) ≡ 15)
+        (ours : addressOf (firstWord heardNow) ≡ lastSettings past .address) where
+      -- A status reply holds the status word last set, with LAA and RLD as the poll finds them.
+      pub status-replied : h ≡ spoken (statusTold (linesPolled past a b) (lastSettings past .status))
+      status-replied = demand.status-replied (ran calls) made sound poll ours
+
+      -- Bit by bit: LAA and RLD at their places, and each other bit the host's.
+      pub status-bits : (w : ℕ) → lastSettings past .status ≡ some w
+          → (x : ℕ) × (h ≡ spoken (some (x ∷ []))) × LineBits (linesPolled past a b) w x
+      status-bits = demand.status-bits (ran calls) made sound poll ours
 
   -- ---- demand 3: what each address shows
 

@@ -46,7 +46,7 @@ pub fn set_address(c: Controller, a: u16) -> Told
     tell_if(LAST_ADDRESS < a, c, d)
 }
 
-// The status word that a poll of our address is answered with.
+// The status word that a poll of our address is answered with, with LAA and RLD in it.
 pub fn set_status(c: Controller, w: u16) -> Controller
     ensures { λ r. ⌜ r ≡ tell (status w) c ⌝ }
 {

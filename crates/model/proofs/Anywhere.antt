@@ -17,8 +17,9 @@ use Rattle.model.specs.declared.Exchange.{Exchange}
 use Rattle.model.specs.declared.Exchange.the-variants.{Idle, Waiting, Done}
 use Rattle.model.specs.Layout.{Areas, areasFit, portAt}
 use Rattle.model.specs.Ports.{codeOf, addressOf, Standing, standing, markedWords, Effect, untouched, mark, filled, apply}
-use Rattle.model.specs.Lines.{trusted}
-use Rattle.model.specs.Event.{World, heard, heardBy, asMaster, asHeard, waitsFor, answerTo, sent}
+use Rattle.model.specs.declared.Device.{Device}
+use Rattle.model.specs.Lines.{trusted, observed, beforeRule3}
+use Rattle.model.specs.Event.{World, heard, heardBy, asMaster, asHeard, waitsFor, deviceWith, answerTo, sent}
 use Rattle.model.specs.Quiet.{effectLater, due, tick, tickEffect, ticks}
 use Rattle.model.specs.Calls.{hear, quiet, badArea, refusal, effect, step, answer}
 use Rattle.model.specs.Past.{Typed, isSlave, firstWord}
@@ -26,13 +27,13 @@ use Rattle.model.specs.Taken.{answersNow, Gentle, still, marks, OnlyStat
 use Rattle.model.specs.Damage.{SoundMaster}
 use Rattle.model.proofs.Shape.{Valid}
 use Rattle.model.proofs.PortWords.{length-with}
-use Rattle.model.proofs.Tables.{answerOf, effectOf, hear-answer, hear-effect}
+use Rattle.model.proofs.Tables.{answerOf, linesFound, effectOf, hear-answer, hear-effect}
 use Rattle.model.proofs.Refused.{accepted}
 use Rattle.model.proofs.Standings.{standing-at}
 use Rattle.model.proofs.Taken.{waiting-took, valid-heard}
 use Rattle.model.proofs.Invariant.{one-of}
 use Rattle.model.proofs.Holds.{later-valid}
-use Rattle.model.proofs.Damage.{heard-master, gentle-late, only-same, only-trans, gentle-only}
+use Rattle.model.proofs.Damage.{heard-master, slave-unanswered, gentle-late, only-same, only-trans, gentle-only}
 use Rattle.model.proofs.Replies.{answer-sound}
 
 module _ (s : World) (a b : Hearing) where
@@ -40,36 +41,41 @@ module _ (s : World) (a b : Hearing) where
   abbrev heardOn : Hearing
   heardOn = trusted (s .controller .lines) a b
 
+  -- and the observed one
+  abbrev otherLine : Hearing
+  otherLine = observed (s .controller .lines) a b
+
   -- ---- the reply
 
   -- A reply is given to a sound master frame alone.
   pub no-other-reply-anywhere : (SoundMaster heardOn → ⊥) → answer (hear a b) s ≡ none
   unfolding answer heardBy heard
-  no-other-reply-anywhere n = rw (hear-answer s a b) (by (heardOn .kind) refl (s .controller .exchange))
+  no-other-reply-anywhere n = rw (hear-answer s a b) (by _ (heardOn .kind) refl (s .controller .exchange))
     where
-      by : (k : Kind) → heardOn .kind ≡ k → (x : Exchange) → answerOf (s .controller .device) (s .areas) (asHeard k x heardOn) ≡ none
-      by Silence e x = refl
-      by Noise e x = refl
-      by MasterFrame e x = judged (judgedMaster heardOn) refl
+      by : (d : Device) (k : Kind) → heardOn .kind ≡ k → (x : Exchange) → answerOf d (s .areas) (asHeard k x heardOn) ≡ none
+      by d Silence e x = refl
+      by d Noise e x = refl
+      by d MasterFrame e x = judged (judgedMaster heardOn) refl
         where
-          judged : (j : Judgement) → judgedMaster heardOn ≡ j → answerOf (s .controller .device) (s .areas) (asMaster j heardOn) ≡ none
+          judged : (j : Judgement) → judgedMaster heardOn ≡ j → answerOf d (s .areas) (asMaster j heardOn) ≡ none
           judged Sound ej = absurd (n (record { kind = e; sound = ej }))
           judged (Bad wrong) ej = refl
-      by SlaveFrame e Idle = refl
-      by SlaveFrame e (Waiting w) = refl
-      by SlaveFrame e Done = refl
+      by d SlaveFrame e x = slave-unanswered d (s .areas) heardOn x
 
-  -- to a sound master frame it is what its word is answered with
-  pub answered : SoundMaster heardOn → answer (hear a b) s ≡ answerTo (s .controller .device) (s .areas) (firstWord heardOn)
+  -- to a sound master frame it is what its word is answered with, by the lines as rule 3 finds them
+  pub answered : SoundMaster heardOn
+      → answer (hear a b) s
+      ≡ answerTo (deviceWith (beforeRule3 false (s .controller .lines) heardOn otherLine) (s .controller .device)) (s .areas) (firstWord heardOn)
   unfolding answer heardBy heard
   answered m =
-      rw (hear-answer s a b) (ap (answerOf (s .controller .device) (s .areas)) (heard-master heardOn m (s .controller .exchange)))
+      rw (hear-answer s a b)
+      (ap (λ h. answerOf (deviceWith (linesFound (s .controller .lines) h heardOn otherLine) (s .controller .device)) (s .areas) h)
+      (heard-master heardOn m (s .controller .exchange)))
 
   -- where the areas have their lengths, each reply is a sound slave frame for the code of the master frame
   pub reply-sound-in : areasFit (s .areas) ≡ true → SoundMaster heardOn → (ws : List ℕ) → answer (hear a b) s ≡ some ws
       → judgedSlave (codeOf (firstWord heardOn)) (sent ws) ≡ Sound
-  reply-sound-in fits m ws e =
-      answer-sound (s .controller .device) (s .areas) (firstWord heardOn) fits ws (sym (answered m) ∙ e)
+  reply-sound-in fits m ws e = answer-sound _ (s .areas) (firstWord heardOn) fits ws (sym (answered m) ∙ e)
 
   -- ---- the areas
 

@@ -9,6 +9,7 @@ use mathlib.Core.Option.{Option, none, some}
 use native.Mathlib.Omega.{arith}
 use native.Mathlib.Decide.{ℕ-discrete}
 use lib.ListN.{length}
+use borrow.Author.Tests.{leb-true}
 use Rattle.frames.specs.declared.Kind.{Kind}
 use Rattle.frames.specs.declared.Kind.the-variants.{Silence, Noise, Master as MasterFrame, Slave as SlaveFrame}
 use Rattle.frames.specs.declared.Hearing.{Hearing}
@@ -21,11 +22,10 @@ use Rattle.model.specs.declared.Times.{Times}
 use Rattle.model.specs.declared.Device.{Device}
 use Rattle.model.specs.declared.Words.{Words}
 use Rattle.model.specs.declared.Faults.{Faults}
-use Rattle.model.specs.declared.Heard.{Heard}
-use Rattle.model.specs.declared.Heard.the-variants.{Nothing, Unsound, Master, Reply, Stray}
+use Rattle.model.specs.declared.Heard.the-variants.{Master}
 use Rattle.model.specs.Layout.{Areas, areasFit, portAt, wordsAt, withWords, flagsOf}
 use Rattle.model.specs.Ports.{codeOf, Standing, standing, viewed, view, Effect, untouched, mark, faulty, markedWords, apply}
-use Rattle.model.specs.Event.{World, asHeard, asMaster, heard, heardBy, sinkFor, taken, answerTo}
+use Rattle.model.specs.Event.{World, asHeard, asMaster, asSlave, heard, heardBy, sinkFor, taken}
 use Rattle.model.specs.Quiet.{times, due, missed, effectLater, ticks, tick, tickEffect, tickController}
 use Rattle.model.specs.Calls.{Call, hear, outOfRange, wordOfHeard}
 use Rattle.model.specs.Calls.{refusal, effect, step, answer}
@@ -35,6 +35,7 @@ use Rattle.model.specs.Damage.{harmless, Damaged, Damage, SoundMaster}
 use Rattle.model.specs.Differ.{Unseen}
 use Rattle.model.proofs.Shape.{Shape, Valid, marking, standingAfter}
 use Rattle.model.proofs.Tables.{effectOf, answerOf, exchangeAfter, hear-controller, hear-effect, hear-answer}
+use Rattle.model.proofs.StatusReply.{data-unmoved}
 use Rattle.model.proofs.PortWords.{words-same, words-other}
 use Rattle.model.proofs.Bits.{flags-of-word}
 use Rattle.model.proofs.ShapeKept.{at-here, shape-apply, standing-apply}
@@ -240,35 +241,31 @@ pub earlier : (later p : List Call) → Accepted (later ++ p) → Accepted p
 earlier [] p acc = acc
 earlier (c ∷ later) p acc = earlier later p (acc .2)
 
--- two devices that are equal, over areas that show the same, answer alike whatever is heard
-answer-same : (d e : Device) (m n : Areas) → Alike m n → d ≡ e → (h : Heard) → answerOf d m h ≡ answerOf e n h
-answer-same d e m n k i Nothing = refl
-answer-same d e m n k i Unsound = refl
-answer-same d e m n k i (Master w) = same-answer m n k d w ∙ ap (λ (z : Device). answerTo z n w) i
-answer-same d e m n k i (Reply w j) = refl
-answer-same d e m n k i Stray = refl
+-- a slave frame is not answered
+pub slave-unanswered : (d : Device) (m : Areas) (y : Hearing) (x : Exchange) → answerOf d m (asSlave x y) ≡ none
+slave-unanswered d m y Idle = refl
+slave-unanswered d m y (Waiting w) = refl
+slave-unanswered d m y Done = refl
 
--- a frame that both lines hear gets the same reply in both, whatever its code
-pub same-reply : (s u : World) → Same s u → (y : Hearing) → answer (hear y y) s ≡ answer (hear y y) u
+-- areas that show the same answer alike whatever is heard, a status poll aside, for any device and lines
+answer-same : (d e : Device) (m n : Areas) → Alike m n → (x z : Exchange) (y : Hearing) → (codeOf (firstWord y) ≡ 15 → ⊥) → (k : Kind)
+    → answerOf d m (asHeard k x y) ≡ answerOf e n (asHeard k z y)
+answer-same d e m n a x z y poll Silence = refl
+answer-same d e m n a x z y poll Noise = refl
+answer-same d e m n a x z y poll MasterFrame = go (judgedMaster y)
+  where
+    go : (j : Judgement) → answerOf d m (asMaster j y) ≡ answerOf e n (asMaster j y)
+    go Sound = same-answer m n a d (firstWord y) ∙ data-unmoved d e n (firstWord y) poll
+    go (Bad wrong) = refl
+answer-same d e m n a x z y poll SlaveFrame = slave-unanswered d m y x ∙ sym (slave-unanswered e n y z)
+
+-- a frame that both lines hear gets the same reply in both, whatever its code, a status poll aside
+pub same-reply : (s u : World) → Alike (s .areas) (u .areas) → (y : Hearing) → (codeOf (firstWord y) ≡ 15 → ⊥)
+    → answer (hear y y) s ≡ answer (hear y y) u
 unfolding answer heardBy heard
-same-reply s u k y =
+same-reply s u k y poll =
     rw (hear-answer s y y, hear-answer u y y, either-line (s .controller .lines) y, either-line (u .controller .lines) y)
-    (answer-same _ _ _ _ (k .areas) (k .device) (asHeard (y .kind) (s .controller .exchange) y)
-    ∙ ap (λ (x : Exchange). answerOf (u .controller .device) (u .areas) (asHeard (y .kind) x y)) (k .exchange))
-
--- and so does a sound master frame where exchange and times differ
-pub master-reply : (u s : World) → Unharmed u s → (x : Hearing) → SoundMaster x → answer (hear x x) s ≡ answer (hear x x) u
-unfolding answer heardBy heard
-master-reply u s k x m =
-    rw (
-      hear-answer s x x,
-      hear-answer u x x,
-      either-line (s .controller .lines) x,
-      either-line (u .controller .lines) x,
-      heard-master x m (s .controller .exchange),
-      heard-master x m (u .controller .exchange),
-    )
-    (answer-same _ _ _ _ (k .areas) (k .device) (Master (firstWord x)))
+    (answer-same _ _ _ _ k (s .controller .exchange) (u .controller .exchange) y poll (y .kind))
 
 -- During a stretch of damage only status bits change in the areas.
 pub stretch-marks : (before stretch : List Call) → Accepted (stretch ++ before) → Damage before stretch
@@ -284,4 +281,8 @@ stretch-unseen before stretch acc d a = ap viewed (kept-stretch before stretch a
 -- so what is the same in all but lines, counts and interrupts is not seen
 pub unseen-same : (s u : World) → Same s u → Unseen s u
 unfolding view
-unseen-same s u k = record { views = λ a. ap viewed (k .areas .stands a); replies = λ y p. same-reply s u k y }
+unseen-same s u k =
+    record {
+      views = λ a. ap viewed (k .areas .stands a);
+      replies = λ y p. same-reply s u (k .areas) y (λ e. omega (arith, leb-true (codeOf (firstWord y)) 4 p));
+    }

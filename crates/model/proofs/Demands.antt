@@ -20,21 +20,26 @@ use Rattle.frames.specs.Judge.{judgedMaster, judgedSlave}
 use Rattle.interrupts.specs.Names.{SFC}
 use Rattle.model.specs.declared.Answer.the-variants.{Never, Refused}
 use Rattle.model.specs.Ports.{codeOf, addressOf, hasPorts, Standing, standing, viewed, view}
-use Rattle.model.specs.Event.{World, heard, heardBy, interruptOf, raiseAll, sent, spoken}
+use Rattle.model.specs.declared.Heard.{Heard}
+use Rattle.model.specs.declared.Lines.{Lines}
+use Rattle.model.specs.Lines.{observed, rule3, statusWith, LineBits}
+use Rattle.model.specs.Event.{World, heard, heardBy, deviceWith, answerTo, interruptOf, raiseAll, sent, spoken}
 use Rattle.model.specs.Calls.{Call, hear, refusal, effect, step, answer, outcome, asked, refusalOf, fetched}
 use Rattle.model.specs.Past.{after, Typed, Accepted, onTrusted, firstWord, lastSettings, answers, Opening, openingOf, answersSince}
-use Rattle.model.specs.Past.{writesSince, lastOf, sourceTold, statusTold, replyTold, ifMaster, replyIn, fillings, viewWith}
+use Rattle.model.specs.Past.{writesSince, lastOf, sourceTold, linesPolled, statusTold, replyTold, ifMaster, replyIn, fillings, viewWith}
 use Rattle.model.specs.Past.{toldView, shownWords, takenIf, framesJudged, framesUnsound}
 use Rattle.model.specs.Taken.{Took}
 use Rattle.model.specs.Damage.{SoundMaster}
 use Rattle.model.proofs.Shape.{Shape}
-use Rattle.model.proofs.Tables.{hear-controller, hear-effect}
+use Rattle.model.proofs.Tables.{polls, linesFound, hear-controller, hear-effect}
 use Rattle.model.proofs.ToldPort.{standingWith, toldStanding, told-viewed}
 use Rattle.model.proofs.Taken.{taken-viewed, taken-exactly, took-heard, taken-raises}
 use Rattle.model.proofs.Invariant.{one-of}
 use Rattle.model.proofs.Told.{past-told}
 use Rattle.model.proofs.Alike.{undamaged}
+use Rattle.model.proofs.Damage.{heard-master}
 use Rattle.model.proofs.Reading.{last-none, asks-closed, asked-number, readable, asks-never, fetches}
+use Rattle.model.proofs.StatusReply.{line-bits, poll-finds}
 use Rattle.model.proofs.Replies.{exact-told}
 use Rattle.model.proofs.Anywhere.{no-other-reply-anywhere, answered, reply-sound-in}
 
@@ -171,12 +176,16 @@ module _ (past : List Call) (run : Accepted past) where
       reply-sound ws e = reply-sound-in now a b (shaped .fits) m ws e
 
       -- Each reply is exactly what the past tells, for every F-code: the words last written to the open source with this master word,
-      -- the status word last set for a poll of the device address last set, and none to any other master frame.
-      pub reply-exact : answer (hear a b) now ≡ replyTold past (firstWord heardNow)
+      -- the status word last set, with the lines as the poll finds them, for a poll of the device address last set, and none to any other
+      -- master frame.
+      pub reply-exact : answer (hear a b) now ≡ replyTold past (linesPolled past a b) (firstWord heardNow)
       reply-exact =
           let h = past-told past run in
+          let c = now .controller in
           answered now a b m
-          ∙ exact-told past (now .controller .device) (now .areas) (h .holds .stands) (firstWord heardNow) (h .status) (h .address)
+          ∙ ap (λ (l : Lines). answerTo (deviceWith l (c .device)) (now .areas) (firstWord heardNow))
+          (poll-finds (c .lines) heardNow (observed (c .lines) a b) (m .kind))
+          ∙ exact-told past (c .device) (now .areas) (h .holds .stands) (linesPolled past a b) (firstWord heardNow) (h .status) (h .address)
 
       -- So a data reply holds the words that the host last wrote to that port since it was opened; without such words there is none.
       pub data-reply : hasPorts (codeOf (firstWord heardNow)) ≡ true
@@ -184,11 +193,28 @@ module _ (past : List Call) (run : Accepted past) where
       unfolding replyTold
       data-reply p = reply-exact ∙ rw p
 
-      -- A status reply, to a poll of the device address last set, holds the status word last set; without one there is none.
-      pub status-reply : codeOf (firstWord heardNow) ≡ 15 → addressOf (firstWord heardNow) ≡ lastSettings past .address
-          → answer (hear a b) now ≡ statusTold (lastSettings past .status)
-      unfolding replyTold
-      status-reply p q = reply-exact ∙ rw (p, q, eq-eqb (lastSettings past .address) (lastSettings past .address) refl)
+      module _ (poll : codeOf (firstWord heardNow) ≡ 15) (ours : addressOf (firstWord heardNow) ≡ lastSettings past .address) where
+        -- A status reply, to a poll of the device address last set, holds the status word last set with LAA and RLD as the poll finds them;
+        -- without a status word there is none.
+        pub status-reply : answer (hear a b) now ≡ statusTold (linesPolled past a b) (lastSettings past .status)
+        unfolding replyTold
+        status-reply = reply-exact ∙ rw (poll, ours, eq-eqb (lastSettings past .address) (lastSettings past .address) refl)
+
+        -- Rule 3 then acts on these lines, whether or not a status word is set.
+        pub poll-ruled : step (hear a b) now .controller .lines ≡ rule3 true (linesPolled past a b)
+        unfolding step heardBy heard
+        poll-ruled =
+            let c = now .controller in
+            let o = observed (c .lines) a b in
+            rw (hear-controller now a b)
+            (ap (λ (h : Heard). rule3 (polls (c .device) h) (linesFound (c .lines) h heardNow o)) (heard-master heardNow m (c .exchange))
+            ∙ rw (poll, ours, past-told past run .address, eq-eqb (lastSettings past .address) (lastSettings past .address) refl)
+            (ap (rule3 true) (poll-finds (c .lines) heardNow o (m .kind))))
+
+        -- Bit by bit: LAA and RLD at their places, whatever the host wrote there, and each other bit the host's.
+        pub status-bits : (s : ℕ) → lastSettings past .status ≡ some s
+            → (r : ℕ) × (answer (hear a b) now ≡ some (r ∷ [])) × LineBits (linesPolled past a b) s r
+        status-bits s e = (statusWith (linesPolled past a b) s, status-reply ∙ rw e, line-bits (linesPolled past a b) s)
 
     -- So of every event, whatever it hears, the reply is a function of the past and of what the trusted line heard.
     pub reply-told : answer (hear a b) now ≡ replyIn past a b
@@ -199,7 +225,7 @@ module _ (past : List Call) (run : Accepted past) where
         other n = no-other-reply (λ m. n (m .kind))
 
         by : (k : Kind) → heardNow .kind ≡ k → (j : Judgement) → judgedMaster heardNow ≡ j
-            → answer (hear a b) now ≡ ifMaster k j (replyTold past (firstWord heardNow))
+            → answer (hear a b) now ≡ ifMaster k j (replyTold past (linesPolled past a b) (firstWord heardNow))
         by Silence e j ej = other (λ f. let z : _≡_ {A = ℕ} 0 1 = cc in omega arith)
         by Noise e j ej = other (λ f. let z : _≡_ {A = ℕ} 0 1 = cc in omega arith)
         by MasterFrame e Sound ej = reply-exact (record { kind = e; sound = ej })

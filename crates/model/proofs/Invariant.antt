@@ -1,7 +1,7 @@
 -- The invariant of runs, and a bus event: every address shows what the past tells of it, and the controller waits, counts and reports as
 -- the past tells. Assumes nothing.
 use Prim.Native.Nat.{ℕ, suc, _+_, _%_, _≤_, _<_, min}
-use mathlib.Core.Path.{_≡_, refl, _∙_, ap}
+use mathlib.Core.Path.{_≡_, refl, sym, _∙_, ap}
 use mathlib.Core.Bool.{Bool, true, false, cond, not, _&&_}
 use mathlib.Core.List.{List, _∷_}
 use mathlib.Core.Option.{Option, none, some}
@@ -15,6 +15,7 @@ use Rattle.frames.specs.declared.Hearing.{Hearing}
 use Rattle.frames.specs.declared.Judgement.{Judgement}
 use Rattle.frames.specs.declared.Judgement.the-variants.{Sound, Unsound as Bad}
 use Rattle.frames.specs.Hearing.{wordsOf}
+use Rattle.frames.specs.Size.{expectedOf}
 use Rattle.frames.specs.Judge.{judgedMaster, judgedSlave, isSound}
 use Rattle.model.specs.declared.Exchange.{Exchange}
 use Rattle.model.specs.declared.Exchange.the-variants.{Idle, Waiting, Done}
@@ -28,11 +29,12 @@ use Rattle.model.specs.Quiet.{times}
 use Rattle.model.specs.Host.{status, address}
 use Rattle.model.specs.Calls.{Call, hear, effect, step}
 use Rattle.model.specs.Past.{after, Typed, onTrusted, firstWord, awaited, answers, Opening, openingOf, answersSince, lastSettings}
-use Rattle.model.specs.Past.{writesSince, lastOf, judgedAs, judgement, addJudged, addUnsound, countSince, framesJudged}
-use Rattle.model.specs.Past.{framesUnsound}
+use Rattle.model.specs.Past.{writesSince, lastOf, linesPolled, asksOthers, judgedAs, judgement, addJudged, addUnsound, countSince}
+use Rattle.model.specs.Past.{framesJudged, framesUnsound}
 use Rattle.model.proofs.ToldPort.{standingWith, toldStanding}
 use Rattle.model.proofs.Shape.{refill}
 use Rattle.model.proofs.Tables.{countsAfter, timesAfter, hear-controller, hear-effect}
+use Rattle.model.proofs.StatusReply.{asks-unmoved}
 use Rattle.model.proofs.ShapeKept.{shape-apply}
 use Rattle.model.proofs.Waits.{waitNow, Live, waits-now, waits-heard, live-heard}
 use Rattle.model.proofs.Taken.{takenBy, taken-exactly, valid-heard}
@@ -160,6 +162,10 @@ hear-told past a b ty h =
     let n = counts-heard (c .counts) (framesJudged past) (framesUnsound past) (h .fc) (h .ec) k t (k .kind) x (H .live) in
     let p : 0 < t .chosen = rw (h .chosen) (h .some-time) in
     let q : t .chosen ≤ 128 = rw (h .chosen) (h .short-time) in
+    let asks =
+    sym (asks-unmoved (linesPolled past a b) (c .device) (s .areas) (firstWord k) (expectedOf (codeOf (firstWord k))))
+    ∙ ap (asksOthers (expectedOf (codeOf (firstWord k))))
+    (exact-told past (c .device) (s .areas) (H .stands) (linesPolled past a b) (firstWord k) (h .status) (h .address)) in
     rw (hear-controller s a b, hear-effect s a b)
     (record {
       holds = record {
@@ -167,7 +173,7 @@ hear-told past a b ty h =
         stands =
             λ e. taken-exactly (s .areas) (H .shape) k l (k .kind) x t (H .live) e
             ∙ rw (H .waits 0, H .stands e) (hear-standing past a b e (openingOf past e));
-        waits = λ e. waits-heard (c .device) (s .areas) t k (k .kind) x e ∙ rw (exact-told past (c .device) (s .areas) (H .stands) (firstWord k) (h .status) (h .address), H .waits e, h .chosen);
+        waits = λ e. waits-heard (c .device) (s .areas) t k (k .kind) x e ∙ rw (asks, H .waits e, h .chosen);
         live = live-heard (c .device) (s .areas) t k (k .kind) x p (H .live);
         short = short-heard t k (k .kind) x (H .short) q;
       };

@@ -11,6 +11,7 @@ pub mod Refused
 pub mod ToldPort
 pub mod Waits
 pub mod Tables
+pub mod StatusReply
 pub mod Accepted
 pub mod Taken
 pub mod Holds

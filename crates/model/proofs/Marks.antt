@@ -20,7 +20,7 @@ use Rattle.model.specs.declared.Heard.the-variants.{Reply}
 use Rattle.model.specs.Layout.{Areas, areasFit, entry, wordsAt, withWords, portAt, flagsOf, marksNumber}
 use Rattle.model.specs.Ports.{addressOf, Standing, turned, filledWords, faulty, markedWords, openWords, replyMissing, replyBad}
 use Rattle.model.specs.Ports.{fill, mark, opened, filled, apply}
-use Rattle.model.specs.Lines.{trusted}
+use Rattle.model.specs.Lines.{trusted, observed}
 use Rattle.model.specs.Event.{World, heardBy, event, hearEffect, sinkFor, taken, brings}
 use Rattle.model.specs.Quiet.{expired, due, exchangeLater, effectLater, tick, tickEffect, tickController, ticks, dueWithin}
 use Rattle.model.specs.Calls.{hear, quiet, openPort, writePort, effect, step}
@@ -144,7 +144,8 @@ marks-shown s fits =
       answered =
           λ a b w j v heard found.
           let t = trusted (s .controller .lines) a b in
-          ap (λ x. marksAt (apply (brings (s .controller) m t x .effect) m) (v .port)) heard ∙ taken-shown m fits w v found j t;
+          let o = observed (s .controller .lines) a b in
+          ap (λ x. marksAt (apply (brings (s .controller) m t o x .effect) m) (v .port)) heard ∙ taken-shown m fits w v found j t;
       late = λ n w v d found. late-shown n s w v fits d found;
       written = λ a ws small. fill-clears m fits (entry m a) small ws;
       fresh = λ a p code sink i small. open-clears m fits p small a code sink i;

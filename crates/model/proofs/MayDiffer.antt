@@ -237,7 +237,7 @@ may-differ before stretch calls d f acc =
         device = k .device;
         areas =
             at-address (calls ++ before) (past-told (calls ++ before) (r .0)) _ _ (rw (waiting-address before calls (r .0)) (r .1 .but));
-        replies = λ y n. same-reply _ _ k y;
+        replies = λ y n. same-reply _ _ (k .areas) y n;
       },
     )
 

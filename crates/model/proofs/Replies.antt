@@ -20,7 +20,9 @@ use Rattle.frames.proofs.Sizes.{longest}
 use Rattle.model.specs.Layout.{Areas, areasFit, portAt, flagsOf, partOf}
 use Rattle.model.specs.Ports.{codeOf, addressOf, hasPorts, sizeOf, validPage, Standing, standingOf, standing}
 use Rattle.model.specs.declared.Device.{Device}
-use Rattle.model.specs.Event.{openFor, portFor, ifSource, sourceFor, pollsUs, ownWords, ifExpected, answerTo, sent}
+use Rattle.model.specs.declared.Lines.{Lines}
+use Rattle.model.specs.Lines.{statusWith}
+use Rattle.model.specs.Event.{openFor, portFor, ifSource, sourceFor, pollsUs, deviceWith, ownWords, ifExpected, answerTo, sent}
 use Rattle.model.specs.Calls.{Call}
 use Rattle.model.specs.Past.{Opening, openingOf, writesSince, lastOf, fillings, sourceTold, lastSettings, statusTold, replyTold}
 use Rattle.model.proofs.ToldPort.{standingWith, toldStanding}
@@ -180,18 +182,6 @@ module _ (past : List Call) (d : Device) (m : Areas) (stands : (a : ℕ) → sta
       own none = let n : codeOf w ≡ 15 → ⊥ = λ e. omega (arith, leb-true (codeOf w) 4 p) in rw (ne-eqb (codeOf w) 15 n)
       own (some ws) = refl
 
-  -- A status poll to our address is answered with the status word last set, or not at all.
-  status-told : (w : ℕ) → pollsUs d w ≡ true → statusNow d ≡ lastSettings past .status → answerTo d m w ≡ statusTold (lastSettings past .status)
-  unfolding answerTo portFor
-  status-told w p e =
-      let q = and-eq-true-iff _ _ .0 p in
-      let c : codeOf w ≡ 15 = eqb-true _ _ (q .0) in
-      rw (c, poll-expects, q .0, q .1) (go (d .set) ∙ ap statusTold e)
-    where
-      go : (b : Bool) → cond b (some (d .status ∷ [])) none ≡ statusTold (cond b (some (d .status)) none)
-      go true = refl
-      go false = refl
-
   -- no port, no poll to our address: no answer
   unpolled : (w : ℕ) → hasPorts (codeOf w) ≡ false → pollsUs d w ≡ false → answerTo d m w ≡ none
   unfolding answerTo portFor
@@ -201,17 +191,34 @@ module _ (past : List Call) (d : Device) (m : Areas) (stands : (a : ℕ) → sta
       quiet (some k) = refl
       quiet none = refl
 
-  -- A sound master frame of any code is answered as the past tells, and not otherwise.
-  pub exact-told : (w : ℕ) → statusNow d ≡ lastSettings past .status → d .address ≡ lastSettings past .address → answerTo d m w ≡ replyTold past w
-  unfolding replyTold
-  exact-told w e l = go (hasPorts (codeOf w)) refl
+-- the same with these lines in the status word
+module _ (past : List Call) (d : Device) (m : Areas) (stands : (a : ℕ) → standing m a ≡ toldStanding past a (openingOf past a)) (l : Lines) where
+  -- A status poll to our address is answered with the status word last set, or not at all.
+  status-told : (w : ℕ) → pollsUs d w ≡ true → statusNow d ≡ lastSettings past .status
+      → answerTo (deviceWith l d) m w ≡ statusTold l (lastSettings past .status)
+  unfolding answerTo portFor
+  status-told w p e =
+      let q = and-eq-true-iff _ _ .0 p in
+      let c : codeOf w ≡ 15 = eqb-true _ _ (q .0) in
+      rw (c, poll-expects, q .0, q .1) (go (d .set) ∙ ap (statusTold l) e)
     where
-      polled : (b : Bool) → pollsUs d w ≡ b → hasPorts (codeOf w) ≡ false → answerTo d m w ≡ cond b (statusTold (lastSettings past .status)) none
+      go : (b : Bool) → cond b (some (statusWith l (d .status) ∷ [])) none ≡ statusTold l (cond b (some (d .status)) none)
+      go true = refl
+      go false = refl
+
+  -- A sound master frame of any code is answered as the past tells, and not otherwise.
+  pub exact-told : (w : ℕ) → statusNow d ≡ lastSettings past .status → d .address ≡ lastSettings past .address
+      → answerTo (deviceWith l d) m w ≡ replyTold past l w
+  unfolding replyTold
+  exact-told w e here = go (hasPorts (codeOf w)) refl
+    where
+      polled : (b : Bool) → pollsUs d w ≡ b → hasPorts (codeOf w) ≡ false
+          → answerTo (deviceWith l d) m w ≡ cond b (statusTold l (lastSettings past .status)) none
       polled true p n = status-told w p e
-      polled false p n = unpolled w n p
+      polled false p n = unpolled past (deviceWith l d) m stands w n p
 
       go : (b : Bool) → hasPorts (codeOf w) ≡ b
-          → answerTo d m w ≡ cond b (sourceTold past w (openingOf past (addressOf w)))
-          (cond (eqb (codeOf w) 15 && eqb (addressOf w) (lastSettings past .address)) (statusTold (lastSettings past .status)) none)
-      go true p = data-told w p
-      go false p = polled (eqb (codeOf w) 15 && eqb (addressOf w) (lastSettings past .address)) (rw l) p
+          → answerTo (deviceWith l d) m w ≡ cond b (sourceTold past w (openingOf past (addressOf w)))
+          (cond (eqb (codeOf w) 15 && eqb (addressOf w) (lastSettings past .address)) (statusTold l (lastSettings past .status)) none)
+      go true p = data-told past (deviceWith l d) m stands w p
+      go false p = polled (eqb (codeOf w) 15 && eqb (addressOf w) (lastSettings past .address)) (rw here) p

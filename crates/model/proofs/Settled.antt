@@ -32,8 +32,8 @@ use Rattle.model.proofs.Same.{Alike, same-entry}
 use Rattle.model.proofs.Alike.{refuses-same}
 use Rattle.model.proofs.Told.{past-told}
 use Rattle.model.proofs.ByAddress.{here-alone, waiting-address}
-use Rattle.model.proofs.MayDiffer.{near-kept, near-between, Joined, joined}
-use Rattle.model.proofs.Damage.{master-reply}
+use Rattle.model.proofs.MayDiffer.{near-between, Joined, joined}
+use Rattle.model.proofs.Damage.{same-reply}
 
 -- ---- no port in doubt
 
@@ -134,8 +134,7 @@ pub first-reply : (before stretch between : List Call) (x : Hearing) → SoundMa
     → Accepted (between ++ (stretch ++ before))
     → answer (hear x x) (after (between ++ (stretch ++ before))) ≡ answer (hear x x) (after (between ++ before))
 first-reply before stretch between x m poll hs d acc =
-    master-reply (after (between ++ before)) (after (between ++ (stretch ++ before)))
-    (near-kept (near-between before stretch between d hs acc .1)) x m
+    same-reply (after (between ++ (stretch ++ before))) (after (between ++ before)) (near-between before stretch between d hs acc .1 .areas) x poll
 
 -- And every host call among them is answered with the same number: it is refused in both runs, or in neither.
 pub host-numbers-same : (before stretch between : List Call) → AllHosts between → Damage before stretch

@@ -20,9 +20,9 @@ use Rattle.model.specs.declared.Heard.{Heard}
 use Rattle.model.specs.declared.Heard.the-variants.{Nothing, Unsound, Master, Reply, Stray}
 use Rattle.model.specs.Layout.{Areas}
 use Rattle.model.specs.Ports.{codeOf, Effect, untouched}
-use Rattle.model.specs.Lines.{exempt, trusted, observed}
-use Rattle.model.specs.Event.{sinkFor, pollsUs, answerTo, exchangeFor, timesRestarted, judgedOne, raiseAll, when, waitsFor}
-use Rattle.model.specs.Event.{isDone, raisedByReply, taken, ruled, World, brings, brought, heardBy, event, hearController}
+use Rattle.model.specs.Lines.{exempt, trusted, observed, rule3, beforeRule3}
+use Rattle.model.specs.Event.{sinkFor, pollsUs, deviceWith, answerTo, exchangeFor, timesRestarted, judgedOne, raiseAll, when, waitsFor}
+use Rattle.model.specs.Event.{isDone, raisedByReply, taken, World, brings, brought, heardBy, event, hearController}
 use Rattle.model.specs.Event.{hearEffect, hearAnswer}
 
 -- the words that we reply, if we do: a sound master frame alone is answered
@@ -94,9 +94,9 @@ polls d (Master w) = pollsUs d w
 polls d (Reply w j) = false
 polls d Stray = false
 
--- rules 1, 4 and 3
-abbrev pub linesAfter : Device → Lines → Heard → Hearing → Hearing → Lines
-linesAfter d l h t o = ruled (disturbs h) (polls d h) l t o
+-- rules 1 and 4: the lines as rule 3 finds them
+abbrev pub linesFound : Lines → Heard → Hearing → Hearing → Lines
+linesFound l h t o = beforeRule3 (disturbs h) l t o
 
 -- a slave frame while waiting is taken by the sink with the waiting word; nothing else touches the areas
 abbrev pub effectOf : Areas → Heard → Hearing → Effect
@@ -112,7 +112,7 @@ controllerAfter c m h t o =
     record {
       exchange = exchangeAfter (c .device) m (c .exchange) h;
       times = timesAfter (c .times) h;
-      lines = linesAfter (c .device) (c .lines) h t o;
+      lines = rule3 (polls (c .device) h) (linesFound (c .lines) h t o);
       counts = countsAfter (c .counts) h;
       group0 = raiseAll (raised0 m (c .exchange) (c .times) h) (c .group0);
       group1 = raiseAll (raised1 (c .counts) h) (c .group1);
@@ -121,22 +121,22 @@ controllerAfter c m h t o =
 
 -- ---- they are what the event brings
 
-module _ (c : Controller) (m : Areas) (t : Hearing) where
-  controller-table : (o : Hearing) (h : Heard) → brought (brings c m t h) c t o ≡ controllerAfter c m h t o
-  controller-table o Nothing = refl
-  controller-table o Unsound = refl
-  controller-table o (Master w) = refl
-  controller-table o (Reply w j) = refl
-  controller-table o Stray = refl
+module _ (c : Controller) (m : Areas) (t o : Hearing) where
+  controller-table : (h : Heard) → brought (brings c m t o h) c t o ≡ controllerAfter c m h t o
+  controller-table Nothing = refl
+  controller-table Unsound = refl
+  controller-table (Master w) = refl
+  controller-table (Reply w j) = refl
+  controller-table Stray = refl
 
-  effect-table : (h : Heard) → brings c m t h .effect ≡ effectOf m h t
+  effect-table : (h : Heard) → brings c m t o h .effect ≡ effectOf m h t
   effect-table Nothing = refl
   effect-table Unsound = refl
   effect-table (Master w) = refl
   effect-table (Reply w j) = refl
   effect-table Stray = refl
 
-  answer-table : (h : Heard) → brings c m t h .answer ≡ answerOf (c .device) m h
+  answer-table : (h : Heard) → brings c m t o h .answer ≡ answerOf (deviceWith (linesFound (c .lines) h t o) (c .device)) m h
   answer-table Nothing = refl
   answer-table Unsound = refl
   answer-table (Master w) = refl
@@ -161,9 +161,10 @@ module _ (s : World) (a b : Hearing) where
   -- what an event does to the areas is what the table says
   pub hear-effect : hearEffect s a b ≡ effectOf (s .areas) (heardBy C a b) told
   unfolding hearEffect event
-  hear-effect = effect-table C (s .areas) told (heardBy C a b)
+  hear-effect = effect-table C (s .areas) told other (heardBy C a b)
 
-  -- what is replied to an event is what the table says
-  pub hear-answer : hearAnswer s a b ≡ answerOf (C .device) (s .areas) (heardBy C a b)
+  -- what is replied to an event is what the table says, with the lines as rule 3 finds them
+  pub hear-answer :
+      hearAnswer s a b ≡ answerOf (deviceWith (linesFound (C .lines) (heardBy C a b) told other) (C .device)) (s .areas) (heardBy C a b)
   unfolding hearAnswer event
-  hear-answer = answer-table C (s .areas) told (heardBy C a b)
+  hear-answer = answer-table C (s .areas) told other (heardBy C a b)

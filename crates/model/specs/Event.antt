@@ -1,4 +1,5 @@
--- Document 01, "What one bus event does": a hearing for line A and one for line B. Assumes nothing.
+-- Document 01, "What one bus event does": a hearing for line A and one for line B. Document 02, W-201: the lines in the reply to a status
+-- poll. Assumes nothing.
 use Prim.Native.Nat.{ℕ, _+_, _%_}
 use mathlib.Core.Bool.{Bool, true, false, cond, not, _&&_}
 use mathlib.Core.List.{List, [], _∷_}
@@ -29,7 +30,7 @@ use Rattle.model.specs.declared.Heard.{Heard}
 use Rattle.model.specs.declared.Heard.the-variants.{Nothing, Unsound, Master, Reply, Stray}
 use Rattle.model.specs.Layout.{Areas}
 use Rattle.model.specs.Ports.{codeOf, addressOf, hasPorts, Standing, standing, Effect, untouched, fill, mark, replyBad}
-use Rattle.model.specs.Lines.{trusted, observed, exempt, acts1, rule1, rule3, rule4, isFrame, isPoor}
+use Rattle.model.specs.Lines.{trusted, observed, exempt, beforeRule3, ruled, statusWith}
 
 -- the controller and the lent areas
 pub record World : Type 0 where
@@ -92,7 +93,11 @@ sourceFor m w = ifSource (portFor m w)
 abbrev pub pollsUs : Device → ℕ → Bool
 pollsUs d w = eqb (codeOf w) 15 && eqb (addressOf w) (d .address)
 
--- what we reply: the valid words of the source port, or the status word that the host set
+-- our device with these lines in its status word
+abbrev pub deviceWith : Lines → Device → Device
+deviceWith l d = record { address = d .address; set = d .set; status = statusWith l (d .status) }
+
+-- what we reply: the valid words of the source port, or the status word, if the host set one
 abbrev pub ownWords : Device → ℕ → Option (List ℕ) → Option (List ℕ)
 ownWords d w none = cond (pollsUs d w && d .set) (some (d .status ∷ [])) none
 ownWords d w (some ws) = some ws
@@ -216,13 +221,14 @@ aside c x bits unsound disturbed =
     }
 
 -- One equation for each thing that the trusted line may have heard. Nothing: silence or noise is ignored. Unsound: an unsound master
--- frame, EMF and idle; it disturbs. Master: a sound master frame, DMF if an equal word is waited for. Reply: a slave frame while waiting,
--- SFC and done; it disturbs if it is unsound and the waiting code is not 9, 13 or 14. Stray: a slave frame while idle or done, SFC, and
--- DSF too if done and less than the reply time has passed since the last sound master; it is not judged
-abbrev pub brings : Controller → Areas → Hearing → Heard → Brings
-brings c m h Nothing = aside c (c .exchange) [] none false
-brings c m h Unsound = aside c Idle (EMF ∷ []) (some true) true
-brings c m h (Master w) =
+-- frame, EMF and idle; it disturbs. Master: a sound master frame, DMF if an equal word is waited for; a poll is answered with the lines in
+-- the status word as rule 3 finds them. Reply: a slave frame while waiting, SFC and done; it disturbs if it is unsound and the waiting code
+-- is not 9, 13 or 14. Stray: a slave frame while idle or done, SFC, and DSF too if done and less than the reply time has passed since the
+-- last sound master; it is not judged
+abbrev pub brings : Controller → Areas → Hearing → Hearing → Heard → Brings
+brings c m t o Nothing = aside c (c .exchange) [] none false
+brings c m t o Unsound = aside c Idle (EMF ∷ []) (some true) true
+brings c m t o (Master w) =
     record {
       exchange = exchangeFor (c .device) m w;
       times = timesRestarted (c .times);
@@ -231,9 +237,9 @@ brings c m h (Master w) =
       disturbs = false;
       polls = pollsUs (c .device) w;
       effect = untouched;
-      answer = answerTo (c .device) m w;
+      answer = answerTo (deviceWith (beforeRule3 false (c .lines) t o) (c .device)) m w;
     }
-brings c m h (Reply w j) =
+brings c m t o (Reply w j) =
     record {
       exchange = Done;
       times = c .times;
@@ -241,10 +247,10 @@ brings c m h (Reply w j) =
       judged = some (not (isSound j));
       disturbs = not (isSound j) && not (exempt (codeOf w));
       polls = false;
-      effect = taken (sinkFor m w) j h;
+      effect = taken (sinkFor m w) j t;
       answer = none;
     }
-brings c m h Stray =
+brings c m t o Stray =
     aside c (c .exchange) (SFC ∷ when (isDone (c .exchange) && ltb (c .times .since) (c .times .adopted)) DSF) none false
 
 -- the counts after it, and FEV when FC returns to 0
@@ -255,13 +261,6 @@ counting (some unsound) n = judgedOne unsound n
 abbrev pub overflow : Option Bool → Counts → List ℕ
 overflow none n = []
 overflow (some unsound) n = when (eqb (judgedOne unsound n .fc) 0) FEV
-
--- rules 1, 4 and 3, in this order; l are the lines at the start of the event
-abbrev pub ruled : Bool → Bool → Lines → Hearing → Hearing → Lines
-ruled disturbed polled l t o =
-    rule3 polled
-    (rule4 (not (acts1 disturbed l) && isFrame (t .kind) && isPoor o)
-    (rule1 disturbed l))
 
 abbrev pub brought : Brings → Controller → Hearing → Hearing → Controller
 brought e c t o =
@@ -283,7 +282,7 @@ heardBy c a b = heard (c .exchange) (trusted (c .lines) a b)
 
 -- what it brings
 unfoldable pub event : World → Hearing → Hearing → Brings
-event s a b = let c = s .controller in brings c (s .areas) (trusted (c .lines) a b) (heardBy c a b)
+event s a b = let c = s .controller in brings c (s .areas) (trusted (c .lines) a b) (observed (c .lines) a b) (heardBy c a b)
 
 unfoldable pub hearController : World → Hearing → Hearing → Controller
 hearController s a b = let c = s .controller in brought (event s a b) c (trusted (c .lines) a b) (observed (c .lines) a b)

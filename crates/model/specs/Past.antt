@@ -1,9 +1,9 @@
 -- Runs, and what can be said of a run's past without the controller's state: frames heard, words written, ports opened, replies sent. A
 -- past is the list of the accepted calls from a fresh controller and cleared areas on, the newest first. The one thing that is read
--- off the controller is which line is trusted. Assumes nothing.
+-- off the controller is the state of its lines: which one is trusted, and for the reply to a status poll RLD and SLM. Assumes nothing.
 use Prim.Native.Nat.{ℕ, suc, _+_, _%_}
 use mathlib.Core.Path.{_≡_}
-use mathlib.Core.Bool.{Bool, true, false, cond, not, _&&_}
+use mathlib.Core.Bool.{Bool, true, false, cond, not, _&&_, _||_}
 use mathlib.Core.List.{List, [], _∷_}
 use mathlib.Core.Option.{Option, none, some}
 use lib.Dec.{eqb, ltb}
@@ -17,7 +17,8 @@ use Rattle.frames.specs.Hearing.{wordsOf}
 use Rattle.frames.specs.Size.{expectedOf}
 use Rattle.frames.specs.Judge.{judgedMaster, judgedSlave, isSound}
 use Rattle.model.specs.Ports.{masterWord, codeOf, addressOf, hasPorts, View, refilled}
-use Rattle.model.specs.Lines.{trusted}
+use Rattle.model.specs.declared.Lines.{Lines}
+use Rattle.model.specs.Lines.{trusted, observed, withRLD, isPoor, statusWith}
 use Rattle.model.specs.Event.{World}
 use Rattle.model.specs.Quiet.{firstReplyTime}
 use Rattle.model.specs.Host.{Setting, address, status, replyTime, slm, ls, clearEC, reset, group0, group1}
@@ -210,17 +211,25 @@ abbrev pub sourceTold : List Call → ℕ → Option Opening → Option (List �
 sourceTold past w none = none
 sourceTold past w (some o) = cond (eqb (o .word) w && not (o .sink)) (lastOf (writesSince past (addressOf w))) none
 
--- a status word is replied alone
-abbrev pub statusTold : Option ℕ → Option (List ℕ)
-statusTold none = none
-statusTold (some s) = some (s ∷ [])
+-- the lines as a sound status poll finds them, before rule 3 acts: LAA as it was; RLD set if it was, or if SLM is clear and the observed
+-- line has silence, noise, SQE or a violation
+abbrev pub linesPolled : List Call → Hearing → Hearing → Lines
+linesPolled past a b =
+    let l = after past .controller .lines in
+    withRLD (l .rld || (isPoor (observed l a b) && not (l .slm))) l
 
--- the words that a sound master frame with the word w is answered with, for each of the sixteen F-codes. Codes 0 to 4: what the open
--- source with exactly this word was last written. Code 15 with our device address: the status word last set. No other is answered.
-unfoldable pub replyTold : List Call → ℕ → Option (List ℕ)
-replyTold past w =
+-- a status word is replied alone, with LAA and RLD of these lines at their places
+abbrev pub statusTold : Lines → Option ℕ → Option (List ℕ)
+statusTold l none = none
+statusTold l (some s) = some (statusWith l s ∷ [])
+
+-- the words that a sound master frame with the word w is answered with, for each of the sixteen F-codes; l are the lines that a poll finds.
+-- Codes 0 to 4: what the open source with exactly this word was last written. Code 15 with our device address: the status word last set,
+-- with these lines. No other is answered.
+unfoldable pub replyTold : List Call → Lines → ℕ → Option (List ℕ)
+replyTold past l w =
     cond (hasPorts (codeOf w)) (sourceTold past w (openingOf past (addressOf w)))
-    (cond (eqb (codeOf w) 15 && eqb (addressOf w) (lastSettings past .address)) (statusTold (lastSettings past .status)) none)
+    (cond (eqb (codeOf w) 15 && eqb (addressOf w) (lastSettings past .address)) (statusTold l (lastSettings past .status)) none)
 
 -- only a sound master frame is answered
 abbrev pub ifMaster : Kind → Judgement → Option (List ℕ) → Option (List ℕ)
@@ -232,7 +241,7 @@ ifMaster Slave j r = none
 
 -- the words that we reply to an event, if we do
 unfoldable pub replyIn : List Call → Hearing → Hearing → Option (List ℕ)
-replyIn past a b = let h = onTrusted past a b in ifMaster (h .kind) (judgedMaster h) (replyTold past (firstWord h))
+replyIn past a b = let h = onTrusted past a b in ifMaster (h .kind) (judgedMaster h) (replyTold past (linesPolled past a b) (firstWord h))
 
 -- ---- the master word that is waited for
 
@@ -254,7 +263,7 @@ waitAfter Slave j before begun = none
 abbrev pub waitBy : List Call → Happening → (ℕ → Option ℕ) → ℕ → Option ℕ
 waitBy past (hears a b) before q =
     let h = onTrusted past a b in
-    let asks = asksOthers (expectedOf (codeOf (firstWord h))) (replyTold past (firstWord h)) in
+    let asks = asksOthers (expectedOf (codeOf (firstWord h))) (replyTold past (linesPolled past a b) (firstWord h)) in
     waitAfter (h .kind) (judgedMaster h) (before q) (cond (asks && ltb q (lastSettings past .replyTime)) (some (firstWord h)) none)
 waitBy past (passes n) before q = before (n + q)
 waitBy past (sets t) before q = cond (isReset t) none (before q)

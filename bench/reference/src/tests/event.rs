@@ -153,8 +153,9 @@ fn status_polls() {
     assert_eq!(w.both(master(0xF123)), None); // unset: silent
     assert_eq!(w.c.exchange, Exchange::Waiting(0xF123));
     w.c.set_status(0xCAFE);
-    assert_eq!(w.both(master(0xF123)), Some((vec![0xCAFE], vec![check_byte(&[0xCAFE])])));
-    assert_eq!((w.c.exchange, w.seen()), (Exchange::Done, DMF));
+    // Line B is trusted since the first poll, so LAA is 0.
+    assert_eq!(w.both(master(0xF123)), Some((vec![0xCA3E], vec![check_byte(&[0xCA3E])])));
+    assert_eq!((w.c.exchange, w.seen(), w.c.status_word), (Exchange::Done, DMF, Some(0xCAFE)));
     assert_eq!(w.both(master(0xF124)), None);
     assert_eq!(w.c.exchange, Exchange::Waiting(0xF124));
     assert_eq!(w.both(master(0xE123)), None);

@@ -90,6 +90,32 @@ fn rule_3_switches_only_with_rld_clear_and_clears_it() {
     assert_eq!(lines_of(&w), (true, false));
 }
 
+/// W-201: bit 7 is LAA and bit 6 RLD, as they are before rule 3 switches and clears.
+#[test]
+fn a_status_reply_tells_laa_and_rld_from_before_rule_3() {
+    for word in [0x0000u16, 0x00C0, 0xFF3F, 0xFFFF, 0x1234] {
+        for (laa, rld) in [(true, false), (true, true), (false, false), (false, true)] {
+            let mut w = World::new();
+            w.c.set_status(word);
+            (w.c.laa, w.c.rld) = (laa, rld);
+            let (words, _) = w.both(master(0xF000)).unwrap();
+            assert_eq!((words[0] & 0xFF3F, words[0] & 0x80 != 0, words[0] & 0x40 != 0), (word & 0xFF3F, laa, rld));
+            assert_eq!(lines_of(&w), (if rld { laa } else { !laa }, false));
+        }
+    }
+}
+
+/// Rule 4 comes before rule 3, so the reply tells of what it sets in the same event.
+#[test]
+fn a_status_reply_tells_an_rld_that_its_poll_sets() {
+    let mut w = World::new();
+    w.c.set_status(0);
+    assert_eq!(w.lines(master(0xF000), silence()).unwrap().0, [0x00C0]);
+    assert_eq!(lines_of(&w), (true, false));
+    w.c.set_slm(true);
+    assert_eq!(w.lines(master(0xF000), silence()).unwrap().0, [0x0080]);
+}
+
 #[test]
 fn rule_3_not_for_an_unsound_poll() {
     let mut w = World::new();

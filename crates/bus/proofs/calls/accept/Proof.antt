@@ -7,17 +7,22 @@ returns : tie.Need-returns
 returns c =
     let taken = c .before .before .before .before .before .before .before .before in
     let told = taken .before .before .before .before in
+    let met = told .before .before .before .before in
+    let given = met .before .before .before .before .before in
     rw (
       c .after .ensures,
       taken .take .ensures,
       told .interrupt-at .ensures,
       told .before .before .sink-of .ensures,
-      told .before .before .before .before .meet-heard .ensures,
-      told .before .before .before .before .before .port-of .ensures,
+      met .meet-heard .ensures,
+      met .before .port-of .ensures,
+      given .device-with .ensures,
+      given .before .before .lines-found .ensures,
     )
 
 pub accept-spec : {M : Type 1} → statement M
 accept-spec =
     tie.close
     (tie.spec (λ c κs. search needs) (λ c κs. search needs) (λ c κs. search needs) (λ c κs. search needs) (λ c κs. search needs)
-    (λ c κs. search needs) (λ c. search needs) (λ c. search needs) (λ c. search needs) returns)
+    (λ c κs. search needs) (λ c κs. search needs) (λ c κs. search needs) (λ c. search needs) (λ c. search needs) (λ c. search needs)
+    returns)

@@ -10,11 +10,13 @@ returns c =
       c .raise1 .ensures,
       c .before .raise0 .ensures,
       counted .counts-after .ensures,
-      counted .before .lines-after .ensures,
-      counted .before .before .times-after .ensures,
+      counted .before .rule3 .ensures,
+      counted .before .before .polls .ensures,
+      counted .before .before .before .times-after .ensures,
     )
 
 pub after-spec : {M : Type 1} → statement M
 after-spec =
     tie.close
-    (tie.spec (λ c κs. search needs) (λ c κs. search needs) (λ c κs. search needs) (λ c κs. search needs) (λ c κs. search needs) returns)
+    (tie.spec (λ c κs. search needs) (λ c κs. search needs) (λ c κs. search needs) (λ c κs. search needs) (λ c κs. search needs)
+    (λ c κs. search needs) returns)
