@@ -1,6 +1,7 @@
 //! The calls of the comparison. Each is made on both sides and says what each answered; `Run::step` compares.
 
 use crate::{ours, plain, sides, Run};
+use plain::areas::{AGE, FILLS, WORDS};
 
 /// Both sides' answers as text, equal where they agree.
 pub type Answers = (String, String);
@@ -30,10 +31,14 @@ impl Run {
         };
         let left = c.as_ref().map_or(f, sides::flat);
         self.see("replies", reply.is_some());
-        self.see("fills", before.chunks(4).zip(self.plain.ports.chunks(4)).any(|(x, y)| x.last() != y.last()));
-        self.see("status bits", before.chunks(4).zip(self.plain.ports.chunks(4)).any(|(x, y)| x != y && x.last() == y.last()));
+        let fills = |words: &[u16]| words.get(FILLS).copied();
         let blocks = |words: &[u16]| words.get(1).map(|flags| flags & plain::areas::BLOCKS);
-        self.see("block marks", before.chunks(4).zip(self.plain.ports.chunks(4)).any(|(x, y)| blocks(x) != blocks(y)));
+        let changed = |test: &dyn Fn(&[u16], &[u16]) -> bool| before.chunks(WORDS).zip(self.plain.ports.chunks(WORDS)).any(|(x, y)| test(x, y));
+        let (filled, marked) = (changed(&|x, y| fills(x) != fills(y)), changed(&|x, y| x != y && fills(x) == fills(y)));
+        let blocked = changed(&|x, y| blocks(x) != blocks(y));
+        self.see("fills", filled);
+        self.see("status bits", marked);
+        self.see("block marks", blocked);
         self.see("line switches", left.lines.laa != f.lines.laa && refusal == 0);
         self.refusal(refusal);
         self.keep(f, got.controller, c);
@@ -42,6 +47,7 @@ impl Run {
 
     fn quiet(&mut self, f: ours::Controller) -> Answers {
         let n = self.bit_times();
+        let before = self.plain.ports.clone();
         let got = self.ours.lent().quiet(f, n);
         let mut c = sides::controller(&f);
         let refusal = match &mut c {
@@ -49,6 +55,8 @@ impl Run {
             None => away(&self.plain),
         };
         let left = c.as_ref().map_or(f, sides::flat);
+        let ages = |ports: &[u16]| ports.chunks(WORDS).map(|words| words.get(AGE).copied()).collect::<Vec<_>>();
+        self.see("ages", ages(&before) != ages(&self.plain.ports));
         self.see("reply timeouts", f.exchange.stage == 1 && left.exchange.stage == 0);
         self.refusal(refusal);
         self.keep(f, got.controller, c);
@@ -156,9 +164,10 @@ impl Run {
         let code = if self.random.once_in(20) { self.random.below(20) } else { self.random.below(5) };
         let sink = if self.random.once_in(30) { self.random.word() } else { self.random.flag() };
         let interrupt = if self.random.once_in(20) { self.random.word() } else { self.random.below(8) };
-        let got = self.ours.lent().open(address, port, code, sink, interrupt);
+        let limit = if self.random.once_in(4) { self.random.word() } else { self.random.below(5) };
+        let got = self.ours.lent().open(address, port, code, sink, interrupt, limit);
         let refusal = match sink {
-            0 | 1 => plain::open(&mut self.plain, address, port, code, sink == 1, interrupt),
+            0 | 1 => plain::open(&mut self.plain, address, port, code, sink == 1, interrupt, limit),
             _ => away(&self.plain),
         };
         self.refusal(refusal);
@@ -176,7 +185,7 @@ impl Run {
     fn write(&mut self) -> Answers {
         let address = self.address();
         let port = self.plain.index.get(address as usize).copied().unwrap_or(0) as usize;
-        let code = self.plain.ports.get(4 * port).copied().unwrap_or(0) >> 12;
+        let code = self.plain.ports.get(WORDS * port).copied().unwrap_or(0) >> 12;
         let size = if self.random.once_in(8) { self.random.below(40) as usize } else { plain::slave_size(code).unwrap_or(3) };
         let words: Vec<u16> = (0..size).map(|_| self.random.word()).collect();
         let got = self.ours.lent().write(address, &words);
@@ -192,6 +201,7 @@ impl Run {
         self.see("never", plain == ours::Number { refusal: 0, value: 0 });
         self.see("good", plain.value == 1);
         self.see("held", plain.value == 2);
+        self.see("stale", plain.value == 3);
         self.refusal(plain.refusal);
         pair(self.ours.lent().ask(address), plain)
     }
@@ -219,13 +229,14 @@ impl Run {
 
     /// A word of the index table or of the port words changed on both sides, as damage would.
     fn poke(&mut self) -> Answers {
-        let port = 4 * (1 + self.random.below(12)) as usize;
+        let port = WORDS * self.random.one_of(&[0, 1, 2, 3, 4, 5, 6, 7, 8, 9, 10, 11, 12, 255]);
         let edge = self.random.one_of(&[0, 1, 7, 8, 255, 256, 511, 512]);
-        let (index, at, value) = match self.random.below(6) {
+        let (index, at, value) = match self.random.below(7) {
             0 => (true, self.random.one_of(&crate::ADDRESSES) as usize, edge),
             1 => (true, self.random.one_of(&crate::ADDRESSES) as usize, self.random.word()),
             2 => (false, port + 2, edge),
-            3 => (false, port + self.random.below(4) as usize, self.random.word()),
+            3 => (false, port + self.random.below(WORDS as u16) as usize, self.random.word()),
+            4 => (false, port + AGE, self.random.one_of(&[0, 1, 65_490, 65_534, 65_535])),
             _ => {
                 let at = port + self.random.below(3) as usize;
                 (false, at, self.plain.ports[at] ^ 1 << self.random.below(16))

@@ -10,6 +10,7 @@ mod sides;
 #[path = "../firmware/tolvendrum.rs"]
 mod tolvendrum;
 
+use plain::areas::WORDS;
 use random::Random;
 use reference as plain;
 use std::collections::BTreeMap;
@@ -63,9 +64,9 @@ impl Run {
     fn master_word(&mut self) -> u16 {
         match self.random.below(20) {
             0..=11 => {
-                let opened = |port: &u16| self.plain.ports.get(4 * *port as usize + 1).is_some_and(|flags| *flags != 0);
+                let opened = |port: &u16| self.plain.ports.get(WORDS * *port as usize + 1).is_some_and(|flags| *flags != 0);
                 let ports: Vec<u16> = (1..=12).filter(opened).collect();
-                if ports.is_empty() { 1 } else { self.plain.ports[4 * self.random.one_of(&ports) as usize] }
+                if ports.is_empty() { 1 } else { self.plain.ports[WORDS * self.random.one_of(&ports) as usize] }
             }
             12 | 13 => 0xF000 | self.controller.device_address,
             14 => match self.controller.exchange {
@@ -146,7 +147,7 @@ impl Run {
     /// Bit times: mostly around a deadline.
     fn bit_times(&mut self) -> u32 {
         let c = &self.controller;
-        let near = [c.adopted.saturating_sub(c.since), 1950 - c.since, 2130 - c.line_count, self.random.below(3), 31, 63, 64];
+        let near = [c.adopted.saturating_sub(c.since), 1950 - c.since, 2130 - c.line_count, 1500 - c.phase, self.random.below(3), 31, 63, 64];
         match self.random.below(300) {
             0 => 65535,
             1 => 65536 + self.random.word() as u32,
@@ -175,14 +176,15 @@ impl Run {
                 pending: frozen1 * (r.word() & 0xFF87), mask: r.word() & 0xFF87, status: r.word() & 0xFF87, frozen: frozen1,
             },
             device: ours::Device { address: r.one_of(&ADDRESSES), set, status: set * r.word() },
+            phase: r.one_of(&[0, 1, 750, 1498, 1499]),
         }
     }
 
     /// One number of a controller changed to anything.
     fn changed(&mut self, f: ours::Controller) -> ours::Controller {
-        // SAFETY: the struct is 23 words without padding (tolvendrum.rs asserts its 46 bytes), and any word is a value of each field.
-        let mut words: [u16; 23] = unsafe { std::mem::transmute(f) };
-        words[self.random.below(23) as usize] = if self.random.flag() == 1 { self.random.word() } else { 2 };
+        // SAFETY: the struct is 24 words without padding (tolvendrum.rs asserts its 48 bytes), and any word is a value of each field.
+        let mut words: [u16; 24] = unsafe { std::mem::transmute(f) };
+        words[self.random.below(24) as usize] = if self.random.flag() == 1 { self.random.word() } else { 2 };
         unsafe { std::mem::transmute(words) }
     }
 }

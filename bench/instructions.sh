@@ -11,7 +11,7 @@ each() {
     echo $((($(count "$@" 3000) - $(count "$@" 1000)) / 2000))
 }
 printf '%-40s %9s %8s %7s\n' 'instructions for each' library peer ratio
-row() { # NAME ROW WORDS
+row() { # NAME ROW WORDS-OR-BIT-TIMES
     ours=$(each "$2" library "$3") peer=$(each "$2" peer "$3")
     printf '%-40s %9d %8d %7.3f\n' "$1" "$ours" "$peer" "$(awk "BEGIN { print $ours / $peer }")"
 }
@@ -24,3 +24,7 @@ row 'check bytes, 16 words, sought one by one' sought 16
 row 'master and slave frame, 1 word' exchange 1
 row 'master and slave frame, 16 words' exchange 16
 row 'master frame and reply, 16 words' reply 16
+row 'quiet, 1 bit time' quiet 1
+row 'quiet, 1,499 bit times' quiet 1499
+row 'quiet, 1,500 bit times' quiet 1500
+row 'quiet, 65,535 bit times' quiet 65535

@@ -1,4 +1,5 @@
-# Sourced by the scripts here, at the repository's root: builds the plain reference at -O3, and its peer, whose check bytes come from a table.
+# Sourced by the scripts here, at the repository's root: builds the plain reference at -O3, and its peer, whose check bytes come from a table
+# and whose quiet time goes from deadline to deadline.
 mkdir -p target/bench
 reference=target/bench/libreference.rlib
 peer=target/bench/libpeer.rlib

@@ -28,8 +28,8 @@ static uint16_t words[16], refusal;
 
 static void nothing(void) {}
 static void reset(void) { c = tolvendrum_reset(); }
-static void open_sink(void) { refusal = tolvendrum_open(AREAS, 1, 1, 4, 1, 1); }
-static void open_source(void) { refusal = tolvendrum_open(AREAS, 2, 2, 4, 0, 1); }
+static void open_sink(void) { refusal = tolvendrum_open(AREAS, 1, 1, 4, 1, 1, 1); }
+static void open_source(void) { refusal = tolvendrum_open(AREAS, 2, 2, 4, 0, 1, 0); }
 static void write_source(void) { refusal = tolvendrum_write(AREAS, 2, words, 16); }
 static void ask(void) { number = tolvendrum_ask(AREAS, 2); }
 static void fetch(void) { fetched = tolvendrum_fetch(AREAS, 2); }

@@ -1,5 +1,5 @@
 #!/usr/bin/env bash
-# The reference's own tests: of its library, also as the peer with check bytes from a table, and of its port program. Needs rustc; writes only
+# The reference's own tests: of its library, also as the peer, and of its port program. Needs rustc; writes only
 # below target/.
 set -eu
 cd "$(dirname "$0")/.."

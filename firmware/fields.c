@@ -15,12 +15,14 @@ static uint16_t page1[TOLVENDRUM_PAGE_LENGTH];
         TOLVENDRUM_PAGE_LENGTH
 
 enum { SINK_ADDRESS = 1, SOURCE_ADDRESS = 2, LONG_ADDRESS = 3, SINK_PORT = 7, SOURCE_PORT = 8, LONG_PORT = 9 };
-enum { ONE_WORD = 0, TWO_WORDS = 1, SIXTEEN_WORDS = 4, TRANSFER = 3 };
+enum { ONE_WORD = 0, TWO_WORDS = 1, SIXTEEN_WORDS = 4, TRANSFER = 3, MILLISECONDS = 2 };
 
-/* The words of a port: its flags are the second. */
+/* The words of a port: its flags are the second, its limit and its age the fifth and the sixth. */
 enum {
-    FLAGS = 4 * SINK_PORT + 1,
-    LONG_FLAGS = 4 * LONG_PORT + 1,
+    FLAGS = TOLVENDRUM_PORT_WORDS * SINK_PORT + 1,
+    LIMIT = TOLVENDRUM_PORT_WORDS * SINK_PORT + 4,
+    AGE = TOLVENDRUM_PORT_WORDS * SINK_PORT + 5,
+    LONG_FLAGS = TOLVENDRUM_PORT_WORDS * LONG_PORT + 1,
     SIDES = TOLVENDRUM_PORT_VP | TOLVENDRUM_PORT_EVER | TOLVENDRUM_PORT_SRC | TOLVENDRUM_PORT_SINK,
     TERR = TOLVENDRUM_PORT_TERR,
     CRC = TOLVENDRUM_PORT_CRC
@@ -159,8 +161,8 @@ static uint16_t status_after(tolvendrum_hearing h)
 static void hearings_and_ports(void)
 {
     static const uint16_t word = 2, words[] = {300, 400};
-    IS(tolvendrum_open(AREAS, SINK_ADDRESS, SINK_PORT, ONE_WORD, TOLVENDRUM_SINK, TRANSFER), 0);
-    IS(tolvendrum_open(AREAS, SOURCE_ADDRESS, SOURCE_PORT, TWO_WORDS, TOLVENDRUM_SOURCE, 0), 0);
+    IS(tolvendrum_open(AREAS, SINK_ADDRESS, SINK_PORT, ONE_WORD, TOLVENDRUM_SINK, TRANSFER, MILLISECONDS), 0);
+    IS(tolvendrum_open(AREAS, SOURCE_ADDRESS, SOURCE_PORT, TWO_WORDS, TOLVENDRUM_SOURCE, 0, 0), 0);
     tolvendrum_hearing slave = frame(TOLVENDRUM_SLAVE, &word, 1), marked = slave;
     marked.sqe = 1;
     IS(status_after(marked), TERR | TOLVENDRUM_PORT_SQE);
@@ -177,6 +179,16 @@ static void hearings_and_ports(void)
     IS(f.size, 1);
     IS(f.words[0], 2);
     IS(tolvendrum_ask(AREAS, 9).refusal, TOLVENDRUM_NOPORT);
+    tolvendrum_controller later = quiet(tolvendrum_reset(), 2999);
+    IS(later.phase, 1499);
+    IS(port_words[AGE], 1);
+    IS(tolvendrum_ask(AREAS, SINK_ADDRESS).value, TOLVENDRUM_GOOD);
+    later = quiet(later, 1);
+    IS(later.phase, 0);
+    IS(port_words[AGE], port_words[LIMIT]);
+    IS(tolvendrum_ask(AREAS, SINK_ADDRESS).value, TOLVENDRUM_STALE);
+    later.phase = TOLVENDRUM_MILLISECOND;
+    IS(tolvendrum_quiet(AREAS, later, 0).refusal, TOLVENDRUM_RANGE);
 
     IS(tolvendrum_write(AREAS, SOURCE_ADDRESS, words, 2), 0);
     tolvendrum_answered r = hear(tolvendrum_reset(), master(TWO_WORDS * 4096 + SOURCE_ADDRESS));
@@ -198,7 +210,7 @@ static void blocks(void)
         TOLVENDRUM_PORT_FIRST_BLOCK, TOLVENDRUM_PORT_SECOND_BLOCK, TOLVENDRUM_PORT_THIRD_BLOCK, TOLVENDRUM_PORT_FOURTH_BLOCK};
     uint16_t words[16] = {9};
     tolvendrum_hearing slave = frame(TOLVENDRUM_SLAVE, words, 16), master_frame = master(SIXTEEN_WORDS * 4096 + LONG_ADDRESS);
-    IS(tolvendrum_open(AREAS, LONG_ADDRESS, LONG_PORT, SIXTEEN_WORDS, TOLVENDRUM_SINK, 0), 0);
+    IS(tolvendrum_open(AREAS, LONG_ADDRESS, LONG_PORT, SIXTEEN_WORDS, TOLVENDRUM_SINK, 0, 0), 0);
     for (int k = 0; k < 4; k++) {
         tolvendrum_hearing wrong = slave;
         wrong.checks[k] ^= 1;

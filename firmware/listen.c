@@ -1,5 +1,5 @@
 /* Listens for the oil temperature: a sink of one word at address 1. Prints that nothing was heard yet, then the value, then that the value
- * is held because the next reply failed to come. run.sh builds and runs it. */
+ * is stale because nobody asked for it for 20 ms, and then that it is held because the next reply failed to come. run.sh builds and runs it. */
 #include "tolvendrum.h"
 
 #include <stdio.h>
@@ -13,7 +13,7 @@ static uint16_t page1[TOLVENDRUM_PAGE_LENGTH];
 
 #define AREAS index_table, TOLVENDRUM_INDEX_LENGTH, port_words, TOLVENDRUM_PORTS_LENGTH, page0, TOLVENDRUM_PAGE_LENGTH, page1, TOLVENDRUM_PAGE_LENGTH
 
-enum { OIL = 1, PORT = 1, ONE_WORD = 0, SINK = 1, NO_INTERRUPT = 0, REPLY_TIME = 64 };
+enum { OIL = 1, PORT = 1, ONE_WORD = 0, SINK = 1, NO_INTERRUPT = 0, LIMIT = 20, REPLY_TIME = 64 };
 
 static void must(uint16_t refusal)
 {
@@ -38,9 +38,16 @@ static tolvendrum_controller hear(tolvendrum_controller c, tolvendrum_hearing h)
     return r.controller;
 }
 
+static tolvendrum_controller quiet(tolvendrum_controller c, uint32_t bit_times)
+{
+    tolvendrum_answered r = tolvendrum_quiet(AREAS, c, bit_times);
+    must(r.refusal);
+    return r.controller;
+}
+
 static void print_oil(void)
 {
-    static const char *const states[] = {"never", "good", "held"};
+    static const char *const states[] = {"never", "good", "held", "stale"};
     tolvendrum_number state = tolvendrum_ask(AREAS, OIL);
     must(state.refusal);
     tolvendrum_fetched f = tolvendrum_fetch(AREAS, OIL);
@@ -54,7 +61,7 @@ static void print_oil(void)
 int main(void)
 {
     tolvendrum_controller c = tolvendrum_reset();
-    must(tolvendrum_open(AREAS, OIL, PORT, ONE_WORD, SINK, NO_INTERRUPT));
+    must(tolvendrum_open(AREAS, OIL, PORT, ONE_WORD, SINK, NO_INTERRUPT, LIMIT));
     print_oil();
 
     tolvendrum_hearing master = frame(TOLVENDRUM_MASTER, OIL, 0x34);
@@ -62,9 +69,10 @@ int main(void)
     c = hear(c, frame(TOLVENDRUM_SLAVE, 2, 0xA1));
     print_oil();
 
-    c = hear(c, master);
-    tolvendrum_answered late = tolvendrum_quiet(AREAS, c, REPLY_TIME);
-    must(late.refusal);
+    c = quiet(c, LIMIT * TOLVENDRUM_MILLISECOND);
+    print_oil();
+
+    quiet(hear(c, master), REPLY_TIME);
     print_oil();
     return 0;
 }

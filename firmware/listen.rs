@@ -3,12 +3,13 @@
 #[path = "tolvendrum.rs"]
 mod tolvendrum;
 
-use tolvendrum::{accepted, Areas, Controller, Hearing, Refusal, State, INDEX_LENGTH, MASTER, PAGE_LENGTH, PORTS_LENGTH, SINK, SLAVE};
+use tolvendrum::{accepted, Areas, Controller, Hearing, Refusal, State, INDEX_LENGTH, MASTER, MILLISECOND, PAGE_LENGTH, PORTS_LENGTH, SINK, SLAVE};
 
 const OIL: u16 = 1;
 const PORT: u16 = 1;
 const ONE_WORD: u16 = 0;
 const NO_INTERRUPT: u16 = 0;
+const LIMIT: u16 = 20;
 const REPLY_TIME: u32 = 64;
 
 /// A frame of one word and its check byte, without quality marks.
@@ -29,6 +30,7 @@ fn print_oil(areas: &Areas) -> Result<(), Refusal> {
         State::Never => "never",
         State::Good => "good",
         State::Held => "held",
+        State::Stale => "stale",
     };
     match areas.fetch(OIL).words()? {
         [value] => println!("oil temperature: {state}, {value}"),
@@ -45,12 +47,15 @@ fn main() -> Result<(), Refusal> {
         page1: &mut [0; PAGE_LENGTH],
     };
     let mut c = Controller::reset();
-    accepted(areas.open(OIL, PORT, ONE_WORD, SINK, NO_INTERRUPT))?;
+    accepted(areas.open(OIL, PORT, ONE_WORD, SINK, NO_INTERRUPT, LIMIT))?;
     print_oil(&areas)?;
 
     let master = frame(MASTER, OIL, 0x34);
     c = hear(&mut areas, c, master)?;
     c = hear(&mut areas, c, frame(SLAVE, 2, 0xA1))?;
+    print_oil(&areas)?;
+
+    c = areas.quiet(c, u32::from(LIMIT) * MILLISECOND).accepted()?.0;
     print_oil(&areas)?;
 
     c = hear(&mut areas, c, master)?;

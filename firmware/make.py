@@ -120,8 +120,15 @@ def c_enum(pairs, form="%d"):
 REFUSALS = ("AREA", "RANGE", "NOPORT", "TAKEN", "SIDE", "DAMAGED")
 AREAS = ("INDEX", "PORTS", "PAGE")
 FLAGS = ("VP", "EVER", "SRC", "SINK", "STO", "TERR", "CRC", "SQE", "ALO", "FIRST_BLOCK", "SECOND_BLOCK", "THIRD_BLOCK", "FOURTH_BLOCK")
+WORDS_OF_PORT = ("PORT_WORDS",)
+WORDS_WORDS = (
+    "A port has so many words of `ports`, one port after the other: its master word, its flags, its transfer interrupt, its fills, its limit",
+    "and its age in milliseconds, and two that are zero.",
+)
+TIMES = ("MILLISECOND",)
+TIME_WORDS = "A millisecond in quiet bit times, at 1.5 Mbit/s."
 FLAG_WORDS = (
-    "The bits of a port's word 1, for port p word 4p + 1 of `ports`: the valid page, whether it was ever filled, its side, and the status bits.",
+    "The bits of a port's flags, the second of its words: the valid page, whether it was ever filled, its side, and the status bits.",
     "The last four say which blocks of an unsound reply had a wrong check byte, if its counts were right; CRC is set exactly if one is.",
 )
 STATUS = ("STATUS_LAA", "STATUS_RLD")
@@ -136,6 +143,12 @@ def c_numbers():
     yield ""
     yield "/* The lengths of the areas, in words. All zero is a table of no ports. */"
     yield from c_enum([(name + "_LENGTH", value) for name, value in constants(AREAS, "constants", "src", "lib.rt")])
+    yield ""
+    yield "/* %s\n * %s */" % WORDS_WORDS
+    yield from c_enum(constants(WORDS_OF_PORT, "constants", "src", "lib.rt"))
+    yield ""
+    yield "/* %s */" % TIME_WORDS
+    yield from c_enum(constants(TIMES, "constants", "src", "lib.rt"))
     yield ""
     yield "/* %s\n * %s */" % FLAG_WORDS
     yield from c_enum([("PORT_" + name, value) for name, value in constants(FLAGS, "constants", "src", "lib.rt")], "0x%04x")
@@ -193,6 +206,14 @@ def rust_numbers():
     yield ""
     for name, value in constants(AREAS, "constants", "src", "lib.rt"):
         yield "pub const %s_LENGTH: usize = %d;" % (name, value)
+    yield ""
+    yield "/// %s\n/// %s" % WORDS_WORDS
+    for name, value in constants(WORDS_OF_PORT, "constants", "src", "lib.rt"):
+        yield "pub const %s: usize = %d;" % (name, value)
+    yield ""
+    yield "/// %s" % TIME_WORDS
+    for name, value in constants(TIMES, "constants", "src", "lib.rt"):
+        yield "pub const %s: u32 = %d;" % (name, value)
     yield ""
     yield "/// %s\n/// %s" % FLAG_WORDS
     yield "pub mod port {"

@@ -20,9 +20,9 @@
  *
  * A controller is handed to a call as an earlier call gave it. Its numbers are an argument out of range (2) in exactly these cases: `stage`
  * above 2; a `word` other than 0 while none is waited for; a flag (`laa`, `rld`, `ls`, `slm`, `frozen`, `set`) that is neither 0 nor 1;
- * `since` above 1950; `line` of 2130 or more; a `chosen` or `adopted` reply time other than 32, 64, 96 and 128; an `address` above 4095; a
- * `status` word other than 0 that is not set; an unused interrupt bit; a pending bit in a group that is not frozen. Other numbers that no
- * call gives, for instance a `word` of an F-code that expects no reply, are not refused.
+ * `since` above 1950; `line` of 2130 or more; a `phase` of 1500 or more; a `chosen` or `adopted` reply time other than 32, 64, 96 and 128;
+ * an `address` above 4095; a `status` word other than 0 that is not set; an unused interrupt bit; a pending bit in a group that is not
+ * frozen. Other numbers that no call gives, for instance a `word` of an F-code that expects no reply, are not refused.
  *
  * What stands between "from the crates" and "end" is written by make.py from the crates, and the gate says when it differs.
  */
@@ -33,7 +33,7 @@
 #include <stdint.h>
 
 /* The version of this interface. docs/INTERFACE.md says when each number grows. */
-#define TOLVENDRUM_VERSION_MAJOR 3
+#define TOLVENDRUM_VERSION_MAJOR 4
 #define TOLVENDRUM_VERSION_MINOR 0
 
 #ifdef __cplusplus
@@ -59,11 +59,22 @@ enum {
 /* The lengths of the areas, in words. All zero is a table of no ports. */
 enum {
     TOLVENDRUM_INDEX_LENGTH = 4096,
-    TOLVENDRUM_PORTS_LENGTH = 1024,
+    TOLVENDRUM_PORTS_LENGTH = 2048,
     TOLVENDRUM_PAGE_LENGTH = 4096
 };
 
-/* The bits of a port's word 1, for port p word 4p + 1 of `ports`: the valid page, whether it was ever filled, its side, and the status bits.
+/* A port has so many words of `ports`, one port after the other: its master word, its flags, its transfer interrupt, its fills, its limit
+ * and its age in milliseconds, and two that are zero. */
+enum {
+    TOLVENDRUM_PORT_WORDS = 8
+};
+
+/* A millisecond in quiet bit times, at 1.5 Mbit/s. */
+enum {
+    TOLVENDRUM_MILLISECOND = 1500
+};
+
+/* The bits of a port's flags, the second of its words: the valid page, whether it was ever filled, its side, and the status bits.
  * The last four say which blocks of an unsound reply had a wrong check byte, if its counts were right; CRC is set exactly if one is. */
 enum {
     TOLVENDRUM_PORT_VP = 0x0001,
@@ -101,7 +112,7 @@ enum {
 };
 
 /* What asking answers. */
-enum { TOLVENDRUM_NEVER = 0, TOLVENDRUM_GOOD = 1, TOLVENDRUM_HELD = 2 };
+enum { TOLVENDRUM_NEVER = 0, TOLVENDRUM_GOOD = 1, TOLVENDRUM_HELD = 2, TOLVENDRUM_STALE = 3 };
 
 /* The stages of an exchange. */
 enum { TOLVENDRUM_IDLE = 0, TOLVENDRUM_WAITING = 1, TOLVENDRUM_DONE = 2 };
@@ -223,7 +234,7 @@ typedef struct {
     uint16_t status; /* the status word, 0 unless set */
 } tolvendrum_device;
 
-/* The controller. Each part begins at a multiple of four words, so that a machine that copies the struct moves whole parts. */
+/* The controller. No struct in it lies across a multiple of four words, so that a machine that copies the controller moves each whole. */
 typedef struct {
     tolvendrum_exchange exchange;
     tolvendrum_counts counts;
@@ -232,6 +243,7 @@ typedef struct {
     tolvendrum_group group0;
     tolvendrum_group group1;
     tolvendrum_device device;
+    uint16_t phase; /* quiet bit times of the millisecond that runs, below 1500 */
 } tolvendrum_controller;
 
 /* What one line heard in an event. In silence and in noise the rest says nothing, but is tested. */
@@ -318,7 +330,8 @@ TOLVENDRUM_ASSERT(offsetof(tolvendrum_controller, lines) == 16, "lines");
 TOLVENDRUM_ASSERT(offsetof(tolvendrum_controller, group0) == 24, "group0");
 TOLVENDRUM_ASSERT(offsetof(tolvendrum_controller, group1) == 32, "group1");
 TOLVENDRUM_ASSERT(offsetof(tolvendrum_controller, device) == 40, "device");
-TOLVENDRUM_ASSERT(sizeof(tolvendrum_controller) == 46, "tolvendrum_controller");
+TOLVENDRUM_ASSERT(offsetof(tolvendrum_controller, phase) == 46, "phase");
+TOLVENDRUM_ASSERT(sizeof(tolvendrum_controller) == 48, "tolvendrum_controller");
 TOLVENDRUM_ASSERT(offsetof(tolvendrum_hearing, kind) == 0, "kind");
 TOLVENDRUM_ASSERT(offsetof(tolvendrum_hearing, words) == 2, "words");
 TOLVENDRUM_ASSERT(offsetof(tolvendrum_hearing, size) == 34, "size");
@@ -329,16 +342,16 @@ TOLVENDRUM_ASSERT(offsetof(tolvendrum_hearing, violation) == 44, "violation");
 TOLVENDRUM_ASSERT(offsetof(tolvendrum_hearing, alo) == 46, "alo");
 TOLVENDRUM_ASSERT(sizeof(tolvendrum_hearing) == 48, "tolvendrum_hearing");
 TOLVENDRUM_ASSERT(offsetof(tolvendrum_answered, controller) == 0, "controller");
-TOLVENDRUM_ASSERT(offsetof(tolvendrum_answered, refusal) == 46, "refusal");
-TOLVENDRUM_ASSERT(offsetof(tolvendrum_answered, reply) == 48, "reply");
-TOLVENDRUM_ASSERT(sizeof(tolvendrum_answered) == 96, "tolvendrum_answered");
+TOLVENDRUM_ASSERT(offsetof(tolvendrum_answered, refusal) == 48, "refusal");
+TOLVENDRUM_ASSERT(offsetof(tolvendrum_answered, reply) == 50, "reply");
+TOLVENDRUM_ASSERT(sizeof(tolvendrum_answered) == 98, "tolvendrum_answered");
 TOLVENDRUM_ASSERT(offsetof(tolvendrum_told, controller) == 0, "controller");
-TOLVENDRUM_ASSERT(offsetof(tolvendrum_told, refusal) == 46, "refusal");
-TOLVENDRUM_ASSERT(sizeof(tolvendrum_told) == 48, "tolvendrum_told");
+TOLVENDRUM_ASSERT(offsetof(tolvendrum_told, refusal) == 48, "refusal");
+TOLVENDRUM_ASSERT(sizeof(tolvendrum_told) == 50, "tolvendrum_told");
 TOLVENDRUM_ASSERT(offsetof(tolvendrum_reading, controller) == 0, "controller");
-TOLVENDRUM_ASSERT(offsetof(tolvendrum_reading, refusal) == 46, "refusal");
-TOLVENDRUM_ASSERT(offsetof(tolvendrum_reading, value) == 48, "value");
-TOLVENDRUM_ASSERT(sizeof(tolvendrum_reading) == 50, "tolvendrum_reading");
+TOLVENDRUM_ASSERT(offsetof(tolvendrum_reading, refusal) == 48, "refusal");
+TOLVENDRUM_ASSERT(offsetof(tolvendrum_reading, value) == 50, "value");
+TOLVENDRUM_ASSERT(sizeof(tolvendrum_reading) == 52, "tolvendrum_reading");
 TOLVENDRUM_ASSERT(offsetof(tolvendrum_number, refusal) == 0, "refusal");
 TOLVENDRUM_ASSERT(offsetof(tolvendrum_number, value) == 2, "value");
 TOLVENDRUM_ASSERT(sizeof(tolvendrum_number) == 4, "tolvendrum_number");
@@ -403,10 +416,11 @@ tolvendrum_number tolvendrum_line(tolvendrum_controller c, uint16_t group);
 /* ---- ports */
 
 /* Opens port 1 to 255 at address 0 to 4095, as a sink (1) or a source (0) of F-code 0 to 4, with data transfer interrupt 1 to 7, or 0 for
- * none. Answers 0 or the refusal. */
+ * none, and a limit in milliseconds, or 0 where the port is not supervised. Its age is then 0; `tolvendrum_ask` says when it is stale. Answers
+ * 0 or the refusal. */
 tolvendrum_refusal tolvendrum_open(uint16_t *index, size_t index_length, uint16_t *ports, size_t ports_length, const uint16_t *page0,
                          size_t page0_length, const uint16_t *page1, size_t page1_length, uint16_t address, uint16_t port, uint16_t code,
-                         uint16_t sink, uint16_t interrupt);
+                         uint16_t sink, uint16_t interrupt, uint16_t limit);
 
 /* Closes the port at an address; the pages stay. Answers 0 or the refusal. */
 tolvendrum_refusal tolvendrum_close(uint16_t *index, size_t index_length, uint16_t *ports, size_t ports_length, const uint16_t *page0,
@@ -417,7 +431,8 @@ tolvendrum_refusal tolvendrum_write(const uint16_t *index, size_t index_length, 
                           size_t page0_length, uint16_t *page1, size_t page1_length, uint16_t address, const uint16_t *words,
                           size_t length);
 
-/* The state of the port at an address: never, good, or held (filled, but the last exchange failed). */
+/* The state of the port at an address: never; held (filled, but the last exchange failed); stale (filled and not held, but its limit is not 0,
+ * and its age in milliseconds is at or above it); or good. `tolvendrum_quiet` says how an age grows. */
 tolvendrum_number tolvendrum_ask(const uint16_t *index, size_t index_length, const uint16_t *ports, size_t ports_length,
                                  const uint16_t *page0, size_t page0_length, const uint16_t *page1, size_t page1_length,
                                  uint16_t address);
@@ -434,7 +449,9 @@ tolvendrum_answered tolvendrum_hear(const uint16_t *index, size_t index_length, 
                                     size_t page0_length, uint16_t *page1, size_t page1_length, tolvendrum_controller c,
                                     tolvendrum_hearing a, tolvendrum_hearing b);
 
-/* So many quiet bit times, 0 to 65,535; at 1.5 Mbit/s a bit time is two thirds of a microsecond. */
+/* So many quiet bit times, 0 to 65,535; at 1.5 Mbit/s a bit time is two thirds of a microsecond. With every TOLVENDRUM_MILLISECOND of them since
+ * reset the age of each open sink grows by 1, up to 65,535. Opening the port and a sound reply set it to 0; a reset leaves it. Milliseconds
+ * are counted from reset and not from the reply, so a value is stale up to one millisecond early. */
 tolvendrum_answered tolvendrum_quiet(const uint16_t *index, size_t index_length, uint16_t *ports, size_t ports_length,
                                      const uint16_t *page0, size_t page0_length, const uint16_t *page1, size_t page1_length,
                                      tolvendrum_controller c, uint32_t bit_times);

@@ -72,7 +72,7 @@ flat! {
         /// the status word, 0 unless set
         status: u16,
     } 6
-    /// The controller. Each part begins at a multiple of four words, so that a machine that copies the struct moves whole parts.
+    /// The controller. No struct in it lies across a multiple of four words, so that a machine that copies the controller moves each whole.
     Controller {
         exchange: Exchange,
         counts: Counts,
@@ -81,7 +81,9 @@ flat! {
         group0: Group,
         group1: Group,
         device: Device,
-    } 46
+        /// quiet bit times of the millisecond that runs, below 1500
+        phase: u16,
+    } 48
     /// What one line heard in an event. In silence and in noise the rest says nothing, but is tested.
     Hearing {
         /// 0 silence, 1 noise, 2 master frame, 3 slave frame
@@ -103,19 +105,19 @@ flat! {
         refusal: u16,
         /// the slave frame that we send, or silence
         reply: Hearing,
-    } 96
+    } 98
     /// What a setting answers.
     Told {
         controller: Controller,
         refusal: u16,
-    } 48
+    } 50
     /// What a call on an interrupt group answers.
     Reading {
         controller: Controller,
         refusal: u16,
         /// what was read; 0 by a write
         value: u16,
-    } 50
+    } 52
     /// A number that was asked for.
     Number {
         refusal: u16,
@@ -149,10 +151,17 @@ pub const SIDE: u16 = 5;
 pub const DAMAGED: u16 = 6;
 
 pub const INDEX_LENGTH: usize = 4096;
-pub const PORTS_LENGTH: usize = 1024;
+pub const PORTS_LENGTH: usize = 2048;
 pub const PAGE_LENGTH: usize = 4096;
 
-/// The bits of a port's word 1, for port p word 4p + 1 of `ports`: the valid page, whether it was ever filled, its side, and the status bits.
+/// A port has so many words of `ports`, one port after the other: its master word, its flags, its transfer interrupt, its fills, its limit
+/// and its age in milliseconds, and two that are zero.
+pub const PORT_WORDS: usize = 8;
+
+/// A millisecond in quiet bit times, at 1.5 Mbit/s.
+pub const MILLISECOND: u32 = 1500;
+
+/// The bits of a port's flags, the second of its words: the valid page, whether it was ever filled, its side, and the status bits.
 /// The last four say which blocks of an unsound reply had a wrong check byte, if its counts were right; CRC is set exactly if one is.
 pub mod port {
     pub const VP: u16 = 0x0001;
@@ -226,7 +235,7 @@ pub const SLAVE: u16 = 3;
 #[rustfmt::skip]
 extern "C" {
     fn tolvendrum_open(i: *mut u16, il: usize, p: *mut u16, pl: usize, z: *const u16, zl: usize, o: *const u16, ol: usize,
-        address: u16, port: u16, code: u16, sink: u16, interrupt: u16) -> u16;
+        address: u16, port: u16, code: u16, sink: u16, interrupt: u16, limit: u16) -> u16;
     fn tolvendrum_close(i: *mut u16, il: usize, p: *mut u16, pl: usize, z: *const u16, zl: usize, o: *const u16, ol: usize,
         address: u16) -> u16;
     fn tolvendrum_write(i: *const u16, il: usize, p: *mut u16, pl: usize, z: *mut u16, zl: usize, o: *mut u16, ol: usize,
@@ -288,6 +297,7 @@ pub enum State {
     Never,
     Good,
     Held,
+    Stale,
 }
 
 impl Answered {
@@ -317,7 +327,7 @@ impl Number {
 
     /// The state that was asked for.
     pub fn state(self) -> Result<State, Refusal> {
-        self.accepted().map(|value| [State::Never, State::Good, State::Held][value as usize])
+        self.accepted().map(|value| [State::Never, State::Good, State::Held, State::Stale][value as usize])
     }
 }
 
@@ -343,9 +353,10 @@ macro_rules! lend {
 
 // SAFETY of the calls: each pointer is lent with the length of its own slice, and the four areas are borrowed apart.
 impl Areas<'_> {
-    pub fn open(&mut self, address: u16, port: u16, code: u16, sink: u16, interrupt: u16) -> u16 {
+    /// The limit is in milliseconds; 0 is not supervised.
+    pub fn open(&mut self, address: u16, port: u16, code: u16, sink: u16, interrupt: u16, limit: u16) -> u16 {
         let ((i, il), (p, pl), (z, zl), (o, ol)) = (lend!(mut self.index), lend!(mut self.ports), lend!(self.page0), lend!(self.page1));
-        unsafe { tolvendrum_open(i, il, p, pl, z, zl, o, ol, address, port, code, sink, interrupt) }
+        unsafe { tolvendrum_open(i, il, p, pl, z, zl, o, ol, address, port, code, sink, interrupt, limit) }
     }
 
     pub fn close(&mut self, address: u16) -> u16 {

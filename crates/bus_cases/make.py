@@ -4,16 +4,18 @@
 usage: make.py            write both files, and say how many lines they have
        make.py --check    write nothing; exit with 1 where a file is not what would be written
 
-The cases stand in py/: host.py, quiet.py, bus.py, lines.py, damage.py and interrupts.py. What is to be printed comes from
+The cases stand in py/: host.py, quiet.py, ages.py, bus.py, lines.py, damage.py and interrupts.py. What is to be printed comes from
 py/controller.py and py/world.py, which are written from documents 01 and 02 and from nothing of the crates that the program runs.
 """
 import os
+import re
 import sys
 
 sys.dont_write_bytecode = True
 HERE = os.path.dirname(os.path.abspath(__file__))
 sys.path.insert(0, os.path.join(HERE, "py"))
 
+import ages
 import bus
 import damage
 import host
@@ -22,17 +24,20 @@ import lines
 import quiet
 from script import Script
 
-# What the program reads at most.
-LIMIT = 65536
+
+def room():
+    """The length of the program's buffer, which the script must not fill."""
+    with open(os.path.join(HERE, "src", "main.rt"), encoding="utf-8") as file:
+        return int(re.search(r"^const ROOM: usize = (\d+);", file.read(), re.M).group(1))
 
 
 def files():
     """The two files' contents."""
     script = Script()
-    for subject in (host, quiet, bus, lines, damage, interrupts):
+    for subject in (host, quiet, ages, bus, lines, damage, interrupts):
         subject.run(script)
     made = {name: "".join(line + "\n" for line in getattr(script, name)).encode("ascii") for name in ("stdin", "stdout")}
-    assert len(made["stdin"]) < LIMIT, "the script has %d bytes" % len(made["stdin"])
+    assert len(made["stdin"]) < room(), "the script has %d bytes" % len(made["stdin"])
     return made
 
 

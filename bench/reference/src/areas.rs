@@ -19,6 +19,12 @@ pub const BLOCKS: u16 = 15 * FIRST_BLOCK;
 pub const STATUS_BITS: u16 = STO | TERR | CRC | SQE | ALO | BLOCKS;
 pub const ZERO_BITS: u16 = !(VP | EVER | SRC | SINK | STATUS_BITS);
 
+/// Words of a port: master word, word 1, interrupt, fills, limit, age, and two that are zero.
+pub const WORDS: usize = 8;
+pub const FILLS: usize = 3;
+pub const LIMIT: usize = 4;
+pub const AGE: usize = 5;
+
 #[derive(Clone, PartialEq, Debug)]
 pub struct Areas {
     pub index: Vec<u16>,
@@ -44,12 +50,12 @@ impl Port {
 impl Areas {
     /// Four areas of the right lengths, all words zero.
     pub fn zero() -> Areas {
-        Areas { index: vec![0; 4096], ports: vec![0; 1024], page0: vec![0; 4096], page1: vec![0; 4096] }
+        Areas { index: vec![0; 4096], ports: vec![0; 256 * WORDS], page0: vec![0; 4096], page1: vec![0; 4096] }
     }
 
     pub fn test_lengths(&self) -> Result<(), u16> {
         let lengths = [self.index.len(), self.ports.len(), self.page0.len(), self.page1.len()];
-        refuse_unless(lengths == [4096, 1024, 4096, 4096], AREA)
+        refuse_unless(lengths == [4096, 256 * WORDS, 4096, 4096], AREA)
     }
 
     /// The index entry of address a.
@@ -65,15 +71,32 @@ impl Areas {
         if number == 0 {
             return Ok(None);
         }
-        let words = &self.ports[4 * number..4 * number + 4];
+        let port = self.port(number).filter(|port| port.master_word & 0x0FFF == a);
+        refuse_unless(port.is_some(), DAMAGED)?;
+        Ok(port)
+    }
+
+    /// The port of this number, where its words are well formed for any address.
+    pub fn port(&self, number: usize) -> Option<Port> {
+        let words = &self.ports[WORDS * number..WORDS * number + WORDS];
         let port = Port { number, master_word: words[0], word1: words[1], interrupt: words[2] };
         let well_formed = port.master_word >> 12 <= 4
-            && port.master_word & 0x0FFF == a
             && port.has(SRC) != port.has(SINK)
             && !port.has(ZERO_BITS)
-            && port.interrupt <= 7;
-        refuse_unless(well_formed, DAMAGED)?;
-        Ok(Some(port))
+            && port.interrupt <= 7
+            && words[6] == 0
+            && words[7] == 0;
+        well_formed.then_some(port)
+    }
+
+    /// A millisecond more: the age of each open sink grows by one and stops at 65,535. By port words alone.
+    pub fn age(&mut self) {
+        for number in 1..256 {
+            if self.port(number).is_some_and(|port| port.has(SINK)) {
+                let age = &mut self.ports[WORDS * number + AGE];
+                *age = age.saturating_add(1);
+            }
+        }
     }
 
     /// The port's own part of the valid page, sized by F-code.
@@ -83,17 +106,18 @@ impl Areas {
     }
 
     /// One fill: copy to the page that is not valid, turn VP, set EVER, clear the
-    /// status bits, add one fill.
+    /// status bits, add one fill; age 0.
     pub fn fill(&mut self, port: Port, words: &[u16]) {
         let page = if port.has(VP) { &mut self.page0 } else { &mut self.page1 };
         page[16 * port.number..16 * port.number + words.len()].copy_from_slice(words);
-        let first = 4 * port.number;
+        let first = WORDS * port.number;
         self.ports[first + 1] = ((port.word1 ^ VP) | EVER) & !STATUS_BITS;
-        self.ports[first + 3] = self.ports[first + 3].wrapping_add(1);
+        self.ports[first + FILLS] = self.ports[first + FILLS].wrapping_add(1);
+        self.ports[first + AGE] = 0;
     }
 
     /// Only the status bits change, to those given.
     pub fn set_status_bits(&mut self, port: Port, bits: u16) {
-        self.ports[4 * port.number + 1] = (port.word1 & !STATUS_BITS) | bits;
+        self.ports[WORDS * port.number + 1] = (port.word1 & !STATUS_BITS) | bits;
     }
 }

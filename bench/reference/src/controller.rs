@@ -21,6 +21,8 @@ pub struct Controller {
     pub device_address: u16,
     /// None until the host sets it.
     pub status_word: Option<u16>,
+    /// Quiet bit times since reset, counted anew with each millisecond.
+    pub phase: u16,
 }
 
 impl Controller {
@@ -31,7 +33,7 @@ impl Controller {
             laa: true, rld: false, ls: false, slm: false,
             fc: 0, ec: 0,
             groups: [Group::new(USED_0), Group::new(USED_1)],
-            device_address: 0, status_word: None,
+            device_address: 0, status_word: None, phase: 0,
         }
     }
 

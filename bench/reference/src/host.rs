@@ -1,11 +1,11 @@
 //! Host calls on ports. Order of refusals: AREA, RANGE, DAMAGED for the entry, NOPORT or TAKEN, DAMAGED
 //! for the port words (not on opening), SIDE, RANGE for the size of a write.
 
-use crate::areas::{Areas, Port, EVER, SINK, SRC, STO, TERR};
+use crate::areas::{Areas, Port, AGE, EVER, LIMIT, SINK, SRC, STO, TERR, WORDS};
 use crate::refusal::{number, refuse_unless, NOPORT, RANGE, SIDE, TAKEN};
 
 #[derive(Clone, Copy, PartialEq, Debug)]
-pub enum Answer { Never, Good, Held, Refused(u16) }
+pub enum Answer { Never, Good, Held, Stale, Refused(u16) }
 
 /// What close, write, ask and fetch begin with.
 fn sought(areas: &Areas, a: u16) -> Result<Port, u16> {
@@ -14,22 +14,20 @@ fn sought(areas: &Areas, a: u16) -> Result<Port, u16> {
     areas.port_of(a)?.ok_or(NOPORT)
 }
 
-/// Sets the entry and the four words, with status, EVER, VP and fills zero.
-pub fn open(areas: &mut Areas, a: u16, p: u16, code: u16, sink: bool, interrupt: u16) -> u16 {
-    number(try_open(areas, a, p, code, sink, interrupt))
+/// Sets the entry and the eight words, with status, EVER, VP, fills and age zero.
+pub fn open(areas: &mut Areas, a: u16, p: u16, code: u16, sink: bool, interrupt: u16, limit: u16) -> u16 {
+    number(try_open(areas, a, p, code, sink, interrupt, limit))
 }
 
-fn try_open(areas: &mut Areas, a: u16, p: u16, code: u16, sink: bool, interrupt: u16) -> Result<(), u16> {
+fn try_open(areas: &mut Areas, a: u16, p: u16, code: u16, sink: bool, interrupt: u16, limit: u16) -> Result<(), u16> {
     areas.test_lengths()?;
     let in_range = a <= 4095 && (1..=255).contains(&p) && code <= 4 && interrupt <= 7;
     refuse_unless(in_range, RANGE)?;
-    let first = 4 * p as usize;
+    let first = WORDS * p as usize;
     refuse_unless(areas.entry(a)? == 0 && areas.ports[first + 1] == 0, TAKEN)?;
     areas.index[a as usize] = p;
-    areas.ports[first] = code * 4096 + a;
-    areas.ports[first + 1] = if sink { SINK } else { SRC };
-    areas.ports[first + 2] = interrupt;
-    areas.ports[first + 3] = 0;
+    let side = if sink { SINK } else { SRC };
+    areas.ports[first..first + WORDS].copy_from_slice(&[code * 4096 + a, side, interrupt, 0, limit, 0, 0, 0]);
     Ok(())
 }
 
@@ -37,7 +35,7 @@ fn try_open(areas: &mut Areas, a: u16, p: u16, code: u16, sink: bool, interrupt:
 pub fn close(areas: &mut Areas, a: u16) -> u16 {
     number(sought(areas, a).map(|port| {
         areas.index[a as usize] = 0;
-        areas.ports[4 * port.number..4 * port.number + 4].fill(0);
+        areas.ports[WORDS * port.number..WORDS * port.number + WORDS].fill(0);
     }))
 }
 
@@ -54,12 +52,18 @@ fn try_write(areas: &mut Areas, a: u16, words: &[u16]) -> Result<(), u16> {
     Ok(())
 }
 
+/// Limit nonzero and age at or above it.
+fn is_stale(words: &[u16]) -> bool {
+    words[LIMIT] != 0 && words[AGE] >= words[LIMIT]
+}
+
 /// The first of the two calls of a read.
 pub fn ask(areas: &Areas, a: u16) -> Answer {
     match sought(areas, a) {
         Err(refusal) => Answer::Refused(refusal),
         Ok(port) if !port.has(EVER) => Answer::Never,
         Ok(port) if port.has(STO | TERR) => Answer::Held,
+        Ok(port) if is_stale(&areas.ports[WORDS * port.number..]) => Answer::Stale,
         Ok(_) => Answer::Good,
     }
 }

@@ -1,7 +1,7 @@
 //! The port program ("Numbers on either side"): it reads standard input, line by line, and prints as replies occur.
 //! Device address 0, no status word, no transfer interrupts.
 
-use reference::areas::{BLOCKS, FIRST_BLOCK, SINK};
+use reference::areas::{BLOCKS, FIRST_BLOCK, SINK, WORDS};
 use reference::refusal::{refuse_unless, TEXT};
 use reference::{ask, fetch, hear, open, quiet, write, Answer, Areas, Controller, Hearing, Kind};
 use std::io::{self, BufRead, BufReader, Read, Write};
@@ -147,7 +147,7 @@ impl Program {
         });
         if let [a, code, sink, p] = self.setup[..] {
             self.setup.clear();
-            accepted(open(&mut self.areas, a, p, code, sink == 1, 0))?;
+            accepted(open(&mut self.areas, a, p, code, sink == 1, 0, 0))?;
         }
         Ok(())
     }
@@ -175,10 +175,11 @@ impl Program {
                 Answer::Never => "never",
                 Answer::Good => "good",
                 Answer::Held => "held",
+                Answer::Stale => "stale",
                 Answer::Refused(_) => continue,
             };
             let p = self.areas.index[a as usize];
-            let port = &self.areas.ports[4 * p as usize..][..4];
+            let port = &self.areas.ports[WORDS * p as usize..][..WORDS];
             let dir = if port[1] & SINK != 0 { "sink" } else { "source" };
             let (code, fills, blocks) = (port[0] >> 12, port[3], (port[1] & BLOCKS) / FIRST_BLOCK);
             let head =

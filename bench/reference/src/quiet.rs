@@ -4,22 +4,43 @@ use crate::areas::{Areas, SINK, STO};
 use crate::controller::{Controller, Exchange};
 use crate::event::port_with;
 use crate::interrupts::{BTI, RTI};
-use crate::refusal::{number, refuse_unless, RANGE};
+use crate::refusal::number;
+#[cfg(not(table))]
+use crate::refusal::{refuse_unless, RANGE};
+
+#[cfg(table)]
+#[path = "../../peer_quiet.rs"]
+mod peer_quiet;
+#[cfg(table)]
+use peer_quiet::try_quiet;
+
+/// A millisecond in bit times.
+pub const MILLISECOND: u16 = 1500;
 
 pub fn quiet(c: &mut Controller, areas: &mut Areas, n: u32) -> u16 {
     number(try_quiet(c, areas, n))
 }
 
+#[cfg(not(table))]
 fn try_quiet(c: &mut Controller, areas: &mut Areas, n: u32) -> Result<(), u16> {
     areas.test_lengths()?;
     refuse_unless(n <= 65_535, RANGE)?;
     // On a copy, so that a refusal after some bit times changes nothing. The areas
-    // need none: they change once at most, in the only bit time that could refuse.
-    let mut later = c.clone();
+    // need none: what ages before the one bit time that could refuse is aged afterwards,
+    // which no caller can tell.
+    let (mut later, mut milliseconds) = (c.clone(), 0);
     for _ in 0..n {
         bit_time(&mut later, areas)?;
+        later.phase += 1;
+        if later.phase == MILLISECOND {
+            later.phase = 0;
+            milliseconds += 1;
+        }
     }
     *c = later;
+    for _ in 0..milliseconds {
+        areas.age();
+    }
     Ok(())
 }
 

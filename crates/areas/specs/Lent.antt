@@ -6,7 +6,7 @@ use mathlib.Core.List.{List}
 use lib.ListN.{length}
 use denote.Ref.{RefT, now, ptr}
 use Rattle.model.specs.declared.Answer.{Answer}
-use Rattle.model.specs.declared.Answer.the-variants.{Never, Good, Held, Refused}
+use Rattle.model.specs.declared.Answer.the-variants.{Never, Good, Held, Stale, Refused}
 use Rattle.model.specs.declared.Flags.{Flags}
 use Rattle.model.specs.Layout.{Areas, areas, pagePlace}
 
@@ -28,6 +28,7 @@ abbrev pub shown : Answer → Bool
 shown Never = false
 shown Good = true
 shown Held = true
+shown Stale = true
 shown (Refused n) = false
 
 -- of the two pages that are lent, the valid one: VP is its number

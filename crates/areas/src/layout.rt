@@ -4,6 +4,7 @@ ghost use mathlib.Core.Path.{_≡_};
 ghost use Prim.Native.Nat.{_≤_};
 ghost use lib.ListN.{getD, set};
 ghost use Rattle.model.specs.Layout.{areasFit, wordsAt, withWords, flagsOf, worth, marksNumber, wordOf};
+ghost use Rattle.model.specs.Ports.{withAge};
 ghost use Rattle.areas.specs.Lent.{lent};
 use frames::Wrong;
 use logic::both;
@@ -41,7 +42,7 @@ pub fn fits(index: &[u16], ports: &[u16], page0: &[u16], page1: &[u16]) -> bool
     )
 }
 
-// The four words of port p.
+// The eight words of port p.
 pub fn get_port(ports: &[u16], p: u16) -> Words
     ensures { λ r. ⌜ r ≡ wordsAt (now (ports .entry)) p ⌝ }
 {
@@ -51,10 +52,21 @@ pub fn get_port(ports: &[u16], p: u16) -> Words
         flags: get(ports, at + 1),
         interrupt: get(ports, at + 2),
         fills: get(ports, at + 3),
+        limit: get(ports, at + 4),
+        age: get(ports, at + 5),
+        sixth: get(ports, at + 6),
+        seventh: get(ports, at + 7),
     }
 }
 
-// The four words of port p replaced.
+// Word 1 of port p alone.
+pub fn get_flags(ports: &[u16], p: u16) -> u16
+    ensures { λ r. ⌜ r ≡ wordsAt (now (ports .entry)) p .flags ⌝ }
+{
+    get(ports, constants::PORT_WORDS * p as usize + 1)
+}
+
+// The eight words of port p replaced.
 pub fn put_port(ports: &mut [u16], p: u16, w: Words)
     ensures { λ r. ⌜ now (ports .exit) ≡ withWords (now (ports .entry)) p w ⌝ }
 {
@@ -63,6 +75,24 @@ pub fn put_port(ports: &mut [u16], p: u16, w: Words)
     put(ports, at + 1, w.flags);
     put(ports, at + 2, w.interrupt);
     put(ports, at + 3, w.fills);
+    put(ports, at + 4, w.limit);
+    put(ports, at + 5, w.age);
+    put(ports, at + 6, w.sixth);
+    put(ports, at + 7, w.seventh);
+}
+
+// The age of port p replaced; its other words stay.
+pub fn put_age(ports: &mut [u16], p: u16, age: u16)
+    ensures { λ r. ⌜ now (ports .exit) ≡ withWords (now (ports .entry)) p (withAge age (wordsAt (now (ports .entry)) p)) ⌝ }
+{
+    put(ports, constants::PORT_WORDS * p as usize + 5, age);
+}
+
+// SINK of word 1.
+pub fn sink_of(x: u16) -> bool
+    ensures { λ r. ⌜ r ≡ flagsOf x .sink ⌝ }
+{
+    x / constants::SINK % 2 == 1
 }
 
 // Word 1 taken apart; bits above the marks of the blocks are not looked at.
@@ -87,7 +117,7 @@ pub fn flags_of(x: u16) -> Flags
         vp: x / constants::VP % 2 == 1,
         ever: x / constants::EVER % 2 == 1,
         src: x / constants::SRC % 2 == 1,
-        sink: x / constants::SINK % 2 == 1,
+        sink: sink_of(x),
         faults,
     }
 }

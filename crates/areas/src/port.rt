@@ -2,7 +2,7 @@
 ghost use mathlib.Core.Path.{_≡_};
 ghost use mathlib.Core.List.{[]};
 ghost use Rattle.model.specs.Layout.{areas, partOf, wordsAt, flagsOf};
-ghost use Rattle.model.specs.Ports.{oneSide, wellFormed, seek, sizeOf, validPage, validWords, stateOf};
+ghost use Rattle.model.specs.Ports.{oneSide, wellFormed, seek, sizeOf, validPage, validWords, tooOld, stateOf, openSink};
 ghost use Rattle.areas.specs.Lent.{shown, validLent, Lies};
 use crate::layout;
 use crate::pick::pick_answer;
@@ -31,10 +31,19 @@ pub fn well_formed(a: u16, w: Words) -> bool
         w.master % constants::CODE_UNIT == a,
     );
     let side = one_side(layout::flags_of(w.flags));
-    both(
+    let told = both(
         both(both(word, side), w.flags / constants::ZERO_BITS == 0),
         w.interrupt <= constants::LAST_INTERRUPT,
-    )
+    );
+    both(both(told, w.sixth == 0), w.seventh == 0)
+}
+
+// Port words of an open sink, at any address.
+pub fn open_sink(w: Words) -> bool
+    ensures { λ r. ⌜ r ≡ openSink w ⌝ }
+{
+    let f = layout::flags_of(w.flags);
+    both(well_formed(w.master % constants::CODE_UNIT, w), f.sink)
 }
 
 // What stands at address a; the pages are not asked.
@@ -58,13 +67,22 @@ pub fn port_size(code: u16) -> usize
     }
 }
 
-// Never, good, or held: filled, but STO or TERR set.
-pub fn state_of(f: Flags) -> Answer
-    ensures { λ r. ⌜ r ≡ stateOf f ⌝ }
+// The limit is nonzero, and the age at or above it.
+fn too_old(limit: u16, age: u16) -> bool
+    ensures { λ r. ⌜ r ≡ tooOld limit age ⌝ }
 {
+    both(limit != 0, limit <= age)
+}
+
+// Never; or held: filled, but STO or TERR set; or stale; or good.
+pub fn state_of(w: Words) -> Answer
+    ensures { λ r. ⌜ r ≡ stateOf w ⌝ }
+{
+    let f = layout::flags_of(w.flags);
     let s = f.faults;
     let held = either(s.sto, s.terr);
-    let filled = pick_answer(held, Answer::Held, Answer::Good);
+    let faultless = pick_answer(too_old(w.limit, w.age), Answer::Stale, Answer::Good);
+    let filled = pick_answer(held, Answer::Held, faultless);
     pick_answer(f.ever, filled, Answer::Never)
 }
 
@@ -76,6 +94,7 @@ pub fn shows(x: Answer) -> bool
         Answer::Never => false,
         Answer::Good => true,
         Answer::Held => true,
+        Answer::Stale => true,
         Answer::Refused(_) => false,
     }
 }

@@ -64,7 +64,7 @@ fn turn(f: Flags) -> Flags
     }
 }
 
-// Port words after a fill: one fill is added modulo 65,536.
+// Port words after a fill: one fill is added modulo 65,536, and the age is 0.
 fn fill_words(w: Words) -> Words
     ensures { λ r. ⌜ r ≡ filledWords w ⌝ }
 {
@@ -74,6 +74,10 @@ fn fill_words(w: Words) -> Words
         flags: layout::word_of(f),
         interrupt: w.interrupt,
         fills: ((w.fills as u32 + 1) % constants::FILLS) as u16,
+        limit: w.limit,
+        age: 0,
+        sixth: w.sixth,
+        seventh: w.seventh,
     }
 }
 

@@ -1,11 +1,11 @@
 -- The outcomes of a bus event and of quiet time, by the refusals that the code computes. Assumes nothing.
 use Prim.Native.Nat.{ℕ}
-use mathlib.Core.Path.{_≡_, refl, _∙_, ap}
+use mathlib.Core.Path.{_≡_, refl, _∙_, ap, sym}
 use mathlib.Core.Bool.{Bool, true, false, cond, not, _&&_, _||_}
 use mathlib.Core.List.{List, []}
 use mathlib.Core.Option.{Option, none, some}
 use lib.Dec.{eqb, leb, ltb}
-use borrow.Author.Tests.{eqb-true, leb-true, leb-false, le-ltb, lt-ltb}
+use borrow.Author.Tests.{not-false, eqb-true, leb-true, leb-false, le-ltb, lt-ltb}
 use Rattle.frames.specs.declared.Hearing.{Hearing}
 use Rattle.frames.specs.declared.Judgement.{Judgement}
 use Rattle.frames.specs.declared.Judgement.the-variants.{Sound, Unsound as Bad}
@@ -19,9 +19,11 @@ use Rattle.model.specs.Ports.{codeOf, addressOf, hasPorts, wellFormed, seek, st
 use Rattle.model.specs.Lines.{trusted, observed}
 use Rattle.model.specs.Event.{World, world, heardBy, deviceWith, raisedByReply, silent, spoken}
 use Rattle.model.proofs.Tables.{answerOf, linesFound, effectOf, controllerAfter}
-use Rattle.model.specs.Quiet.{ticks, dueWithin}
-use Rattle.model.specs.Calls.{Call, hear, quiet, neededFor, wordOfHeard, entryAbove, illFormed, refusal, effect, step, answer}
+use Rattle.model.specs.Quiet.{dueWithin, pulses}
+use Rattle.model.specs.Calls.{Call, hear, quiet, neededFor, wordOfHeard, entryAbove, illFormed, refusal, effect, step, answer, badArea}
 use Rattle.model.specs.Calls.{Outcome, outcome}
+use Rattle.model.proofs.Refused.{accepted}
+use Rattle.model.proofs.Grown.{grownBy, ticks-grown}
 use Rattle.model.proofs.Tables.{hear-controller, hear-effect, hear-answer}
 use Rattle.model.proofs.StatusReply.{exchange-unmoved}
 use Rattle.bus_events.specs.Raised.{replyBits}
@@ -139,11 +141,13 @@ pub quiet-refused : (s : World) (n : ℕ)
 unfolding refusal
 quiet-refused s n = rw (← (due-in n s), damaged-needed (s .areas) (dueWithin n s), ← sixes)
 
--- accepted quiet time passes bit time by bit time, and replies nothing
+-- accepted quiet time does what the rules of its bit times and then their end at once do, and replies nothing
 pub quiet-accepted : (s : World) (q n : ℕ) → n ≡ refusal (quiet q) s → eqb n 0 ≡ true
-    → outcome (quiet q) s ≡ record { refusal = 0; reply = silent; world = ticks q s }
+    → outcome (quiet q) s ≡ record { refusal = 0; reply = silent; world = grownBy q (pulses q s) }
 unfolding outcome step answer
-quiet-accepted s q n e f = rw (← e, f, eqb-true n 0 f)
+quiet-accepted s q n e f =
+    let fits : areasFit (s .areas) ≡ true = not-false _ (accepted (quiet q) s (sym e ∙ eqb-true n 0 f) badArea) in
+    rw (← e, f, eqb-true n 0 f, ticks-grown q s fits)
 
 -- a refused call leaves all as it was
 pub call-refused : (c : Call) (s : World) (n : ℕ) → n ≡ refusal c s → eqb n 0 ≡ false

@@ -35,6 +35,7 @@ afterWith c h l x i =
       group0 = raiseAll (bits0 (c .exchange) (c .times) h i) (c .group0);
       group1 = raiseAll (raised1 (c .counts) h) (c .group1);
       device = c .device;
+      phase = c .phase;
     }
 
 -- the outcome of an accepted event, with what was sought for it; proofs/Outcomes.antt proves it to be the model's

@@ -3,11 +3,13 @@ ghost use mathlib.Core.Path.{_≡_};
 ghost use mathlib.Core.List.{[]};
 ghost use Rattle.model.specs.Layout.{areas};
 ghost use Rattle.model.specs.Event.{world};
-ghost use Rattle.model.specs.Quiet.{tick, ticks};
+ghost use Rattle.model.specs.Quiet.{pulse, pulses};
+ghost use Rattle.model.proofs.Grown.{grownBy};
 ghost use Rattle.model.specs.Calls.{hear, quiet, outcome};
 ghost use Rattle.areas.specs.Lent.{lent};
 ghost use Rattle.bus.specs.Promise.{asOutcome, afterWith, acceptedWith};
 use crate::Answered;
+use areas::age::age_ports;
 use areas::layout;
 use bus_events::counts;
 use bus_events::heard;
@@ -19,6 +21,7 @@ use bus_ports::need::event_refusal;
 use bus_ports::reply::meet_heard;
 use bus_ports::take;
 use bus_quiet::passing;
+use bus_quiet::phase;
 use bus_quiet::quiet;
 use constants::LAST_QUIET;
 use frames::Hearing;
@@ -47,6 +50,7 @@ fn after(c: Controller, h: Heard, l: Lines, x: Exchange, interrupt: u16) -> Cont
         group0: raised::raise0(before, times, h, interrupt, g0),
         group1: raised::raise1(n, h, g1),
         device,
+        phase: c.phase,
     }
 }
 
@@ -120,23 +124,29 @@ pub fn hear(
     }
 }
 
-// One quiet bit time.
-fn tick(index: &[u16], ports: &mut [u16], page0: &[u16], page1: &[u16], c: Controller) -> Controller
+// The rules of document 01 in one quiet bit time.
+fn pulse(
+    index: &[u16],
+    ports: &mut [u16],
+    page0: &[u16],
+    page1: &[u16],
+    c: Controller,
+) -> Controller
     ensures { λ r. ⌜
         world r (lent (index .entry) (ports .exit) (page0 .entry) (page1 .entry)) ≡
-        tick (world c (lent (index .entry) (ports .entry) (page0 .entry) (page1 .entry)))
+        pulse (world c (lent (index .entry) (ports .entry) (page0 .entry) (page1 .entry)))
         ⌝ }
 {
     let x = c.exchange;
     let t = c.times;
     let s = found::sought_due(index, ports, quiet::due(x, t));
     take::miss(ports, found::sink_of(ports, s));
-    quiet::tick_controller(c)
+    quiet::pulse_controller(c)
 }
 
-// n quiet bit times, from deadline to deadline, and to the end at once when nothing but line timeouts is to come. Before that come the
-// reply time, the bus timeout, the bit time in which a filed LS acts, and a line timeout, each at most once (the bus timeout is past and
-// RLD or SLM is set when a second line timeout comes): the loop turns at most five times, whatever n is.
+// These rules in n quiet bit times, from deadline to deadline, and to the end at once when nothing but line timeouts is to come. Before that
+// come the reply time, the bus timeout, the bit time in which a filed LS acts, and a line timeout, each at most once (the bus timeout is past
+// and RLD or SLM is set when a second line timeout comes): the loop turns at most five times, whatever n is.
 fn pass(
     index: &[u16],
     ports: &mut [u16],
@@ -147,7 +157,7 @@ fn pass(
 ) -> Controller
     ensures { λ r. ⌜
         world r (lent (index .entry) (ports .exit) (page0 .entry) (page1 .entry)) ≡
-        ticks n (world c (lent (index .entry) (ports .entry) (page0 .entry) (page1 .entry)))
+        pulses n (world c (lent (index .entry) (ports .entry) (page0 .entry) (page1 .entry)))
         ⌝ }
 {
     let mut d = c;
@@ -157,11 +167,35 @@ fn pass(
         d = j.controller;
         left = j.left;
         if 0 < left {
-            d = tick(index, ports, page0, page1, d);
+            d = pulse(index, ports, page0, page1, d);
             left -= 1;
         }
     }
     d
+}
+
+// The end of n quiet bit times, at once: where milliseconds end, one walk over the ports makes the open sinks as much older. Where none ends
+// no port is looked at.
+fn grow(
+    index: &[u16],
+    ports: &mut [u16],
+    page0: &[u16],
+    page1: &[u16],
+    c: Controller,
+    n: u32,
+) -> Controller
+    ensures { λ r. ⌜
+        world r (lent (index .entry) (ports .exit) (page0 .entry) (page1 .entry)) ≡
+        grownBy n (world c (lent (index .entry) (ports .entry) (page0 .entry) (page1 .entry)))
+        ⌝ }
+{
+    let k = phase::ends_within(n, c.phase);
+    let none = k == 0;
+    if none {
+        return phase::phase_later(n, c);
+    }
+    age_ports(ports, k);
+    phase::phase_later(n, c)
 }
 
 // n quiet bit times.
@@ -186,9 +220,10 @@ pub fn quiet(
     let no = event_refusal(fit, LAST_QUIET < n, s);
     let ok = no == 0;
     if ok {
+        let passed = pass(index, ports, page0, page1, c, n);
         return Answered {
             refusal: 0,
-            controller: pass(index, ports, page0, page1, c, n),
+            controller: grow(index, ports, page0, page1, passed, n),
             reply: silent(),
         };
     }

@@ -155,7 +155,7 @@ def replies(s):
     s.begin("A source with every status bit set still replies")
     s.open(1, 1, 0, sink=False)
     s.write(1, 3)
-    s.word(5, s.world.ports[5] + STATUS_BITS)
+    s.word(1, 1, s.world.word(1, 1) + STATUS_BITS)
     s.event(master(1))
     s.state()
     s.begin("Device status: unset, set, another address, another word; a status of 0 is a status")
@@ -275,22 +275,22 @@ def blocks(s):
         else:
             s.event(frame)
         s.port(1)
-        assert s.world.ports[5] == flags, "word 1 is %04X" % s.world.ports[5]
+        assert s.world.word(1, 1) == flags, "word 1 is %04X" % s.world.word(1, 1)
     s.ask(1)
     s.begin("A one-word sink that was never filled")
     s.open(1, 1, 0)
     s.event(master(1))
     s.event(turned(slave(5), 0))
     s.port(1)
-    assert s.world.ports[5] == 0x0268
+    assert s.world.word(1, 1) == 0x0268
     s.read(1)
     s.close(1)
     s.open(1, 1, 0)
     s.port(1)
-    assert s.world.ports[5] == SINK
+    assert s.world.word(1, 1) == SINK
     s.begin("A write clears the marks of a source")
     s.open(1, 1, 0, sink=False)
-    s.word(5, SRC + sum(BLOCKS))
+    s.word(1, 1, SRC + sum(BLOCKS))
     s.write(1, 3)
     s.port(1)
 
@@ -357,17 +357,17 @@ def ranges(s):
     s.begin("Refusals of bus events in their order: an area of another length before a number out of range before damage")
     s.open(1, 1, 0)
     s.event(master(1))
-    s.word(4, 20481)
+    s.word(1, 0, 20481)
     s.mark()
     long = slave(*range(17), checks=[1])
-    for lengths in ((4095, 1024, 4096, 4096), (4096, 1025, 4096, 4096), (4096, 1024, 4095, 4096), (4096, 1024, 4096, 4097)):
+    for lengths in ((4095, 2048, 4096, 4096), (4096, 2049, 4096, 4096), (4096, 2048, 4095, 4096), (4096, 2048, 4096, 4097)):
         s.lengths(*lengths)
         s.event(long)
         s.event(slave(1))
         s.event(silence())
         s.quiet(65536)
         s.quiet(64)
-    s.lengths(4096, 1024, 4096, 4096)
+    s.lengths(4096, 2048, 4096, 4096)
     s.event(long)
     s.event(slave(1), long)
     s.event(slave(1))

@@ -36,6 +36,8 @@ SIZES = {0: 1, 1: 2, 2: 4, 3: 8, 4: 16, 12: 16, 8: 1, 9: 1, 13: 1, 14: 1, 15: 1}
 REPLY_TIMES = (32, 64, 96, 128)
 BUS_TIMEOUT = 1950
 LINE_TIMEOUT = 2130
+# "Every 1500 quiet bit times since reset adds one to the age of each open sink"
+MILLISECOND = 1500
 
 
 @functools.lru_cache(None)
@@ -150,6 +152,7 @@ class Controller:
         self.fc = self.ec = 0
         self.groups = [Group(USED[0]), Group(USED[1])]
         self.address, self.status = 0, None
+        self.phase = 0
 
     def raise_bit(self, bit):
         self.groups[0].raise_bit(bit)

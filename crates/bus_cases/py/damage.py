@@ -3,19 +3,22 @@ from controller import SINK, SRC
 from host import DAMAGED_FLAGS
 from script import master, silence, slave
 
-# Where port 1 of address 1 is damaged: a word of the index table or of the port words, and its value.
+# Where port 1 of address 1 is damaged: the index entry or one of its port words, and its value.
 KINDS = [("entry", 1, value) for value in (2, 255, 256, 65535)]
-KINDS += [("word", 4, value) for value in (5 * 4096 + 1, 15 * 4096 + 1, 2, 4095, 0)]
-KINDS += [("word", 5, flags) for flags in DAMAGED_FLAGS]
-KINDS += [("word", 6, value) for value in (8, 65535)]
+KINDS += [("word", 0, value) for value in (5 * 4096 + 1, 15 * 4096 + 1, 2, 4095, 0)]
+KINDS += [("word", 1, flags) for flags in DAMAGED_FLAGS]
+KINDS += [("word", 2, 8), ("word", 2, 65535), ("word", 6, 1), ("word", 7, 1)]
 
 
 def put(s, area, at, value):
-    (s.entry if area == "entry" else s.word)(at, value)
+    if area == "entry":
+        s.entry(at, value)
+    else:
+        s.word(1, at, value)
 
 
 def before(s, area, at):
-    return (s.world.index if area == "entry" else s.world.ports)[at]
+    return s.world.index[at] if area == "entry" else s.world.word(1, at)
 
 
 def refused(s, call, *arguments):
@@ -72,14 +75,14 @@ def unneeded(s):
     s.begin("A damaged source is refused to its master frame, filled or not")
     s.open(1, 1, 0, sink=False)
     for flags in (SRC, SRC + 2):
-        s.word(5, flags + 8192)
+        s.word(1, 1, flags + 8192)
         refused(s, s.event, master(1))
-        s.word(5, flags)
+        s.word(1, 1, flags)
         s.event(master(1))
     s.begin("Damage that comes while another address is waited for")
     s.open(1, 1, 0)
     s.event(master(2))
-    s.word(5, SINK + 8192)
+    s.word(1, 1, SINK + 8192)
     s.event(slave(3))
     s.event(master(2))
     s.quiet(64)
@@ -90,12 +93,12 @@ def unneeded(s):
     s.open(1, 1, 0)
     s.event(master(1))
     s.quiet(20)
-    s.word(6, 8)
+    s.word(1, 2, 8)
     refused(s, s.quiet, 44)
     s.quiet(43)
     refused(s, s.quiet, 1)
     refused(s, s.quiet, 5000)
-    s.word(6, 0)
+    s.word(1, 2, 0)
     s.quiet(1)
     s.port(1)
     s.state()
@@ -113,7 +116,9 @@ def stretch(s):
         s.begin(title)
         s.open(1, 1, 1)
         s.open(2, 2, 1, sink=False)
+        s.open(3, 3, 0, limit=1)
         s.write(2, 8, 9)
+        s.exchange(3, 1)
         s.exchange(4097, 3, 4)
         if stretch_of_damage:
             s.event(master(4097, checks=[0]))
@@ -125,10 +130,10 @@ def stretch(s):
             s.fetch(1)
         s.event(master(4098))
         s.exchange(4097, 5, 6)
-        s.read(1)
-        s.read(2)
-        s.port(1)
-        s.port(2)
+        for address in (1, 2, 3):
+            s.read(address)
+            s.port(address)
+        assert s.world.ask(3) == ("stale" if stretch_of_damage else "good")
 
 
 def run(s):

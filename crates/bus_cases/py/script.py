@@ -1,7 +1,7 @@
 """A script for the program, with what must be printed of it: each method writes a line of stdin, has the controller of world.py do
 the same, and writes the lines of stdout that this gives."""
 from controller import BUS_TIMEOUT, Controller, Group, Hearing
-from world import World
+from world import STRIDE, World
 
 # What the program takes the sum of an area with.
 PRIME, FACTOR = 2147483647, 65599
@@ -45,6 +45,7 @@ def numbers_of(c):
         ("group", c.groups[0].numbers()),
         ("group", c.groups[1].numbers()),
         ("device", [c.address, int(c.status is not None), c.status or 0]),
+        ("phase", [c.phase]),
     ]
     return "".join(" " + name + spaced(numbers) for name, numbers in parts)
 
@@ -81,8 +82,10 @@ class Script:
         self.tell(name + spaced(flat))
         self.expect("%s %s" % (name, self.world.called(call, *arguments)))
 
-    def open(self, address, port, code, sink=True, interrupt=0):
-        self.do("open", self.world.open, address, port, code, sink, interrupt)
+    def open(self, address, port, code, sink=True, interrupt=0, limit=0):
+        """A number that the line does not have is 0."""
+        self.tell("open" + spaced([address, port, code, int(sink), interrupt] + [limit] * (limit != 0)))
+        self.expect("open %d" % self.world.called(self.world.open, address, port, code, sink, interrupt, limit))
 
     def close(self, address):
         self.do("close", self.world.close, address)
@@ -109,9 +112,9 @@ class Script:
         self.tell("entry %d %d" % (address, value))
         self.world.index[address] = value
 
-    def word(self, at, value):
-        self.tell("word %d %d" % (at, value))
-        self.world.ports[at] = value
+    def word(self, port, number, value):
+        self.tell("word %d %d" % (STRIDE * port + number, value))
+        self.world.store(port, number, value)
 
     def set_lines(self, a, b):
         texts = (written(a), written(b))
@@ -208,7 +211,7 @@ class Script:
     def port(self, address):
         self.tell("port %d" % address)
         port = self.world.index[address]
-        self.expect("port" + spaced([port] + self.world.ports[4 * port : 4 * port + 4]))
+        self.expect("port" + spaced([port] + self.world.words(port)))
 
     def pages(self, address):
         self.tell("pages %d" % address)

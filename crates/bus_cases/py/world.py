@@ -2,9 +2,13 @@
 import copy
 
 from controller import BTI, BUS_TIMEOUT, CRC, DMF, DSF, EMF, ESF, EVER, LINE_TIMEOUT, REPLY_TIMES, RTI, SFC, SINK, SIZES, SQE, SRC
-from controller import ALO, BLOCKS, STATUS_BITS, STO, TERR, VP, ZERO_BITS, Controller, checks_of
+from controller import ALO, BLOCKS, MILLISECOND, STATUS_BITS, STO, TERR, VP, ZERO_BITS, Controller, checks_of
 
 AREA, RANGE, NOPORT, TAKEN, SIDE, DAMAGED = 1, 2, 3, 4, 5, 6
+# "Port words grow from four to eight: word 4 is a limit in milliseconds (0: not supervised), word 5 the age, 6 and 7 zero."
+STRIDE, LIMIT, AGE = 8, 4, 5
+# "The area is 2048 words."
+LENGTHS = (4096, 2048, 4096, 4096)
 
 
 class Refused(Exception):
@@ -16,10 +20,8 @@ class World:
 
     def __init__(self):
         self.controller = Controller()
-        self.index = [0] * 4096
-        self.ports = [0] * 1024
-        self.pages = [[0] * 4096, [0] * 4096]
-        self.lengths = (4096, 1024, 4096, 4096)
+        self.index, self.ports, *self.pages = ([0] * length for length in LENGTHS)
+        self.lengths = LENGTHS
         self.reply = None
 
     def called(self, call, *arguments):
@@ -40,19 +42,35 @@ class World:
 
     # The memory lent to the calls.
 
+    def place(self, port):
+        return slice(STRIDE * port, STRIDE * port + STRIDE)
+
+    def words(self, port):
+        return self.ports[self.place(port)]
+
+    def word(self, port, number):
+        return self.ports[STRIDE * port + number]
+
+    def store(self, port, number, value):
+        self.ports[STRIDE * port + number] = value
+
     def demand(self, fact, number):
         if not fact:
             raise Refused(number)
 
     def areas_fit(self):
-        self.demand(self.lengths == (4096, 1024, 4096, 4096), AREA)
+        self.demand(self.lengths == LENGTHS, AREA)
 
     def well_formed(self, address, port):
         """ "Port words are well formed if word 0 has F-code at most 4 and the sought address, exactly one of SRC and SINK is set, the zero
-        bits are zero, and word 2 is at most 7." """
-        master, flags, interrupt, _ = self.ports[4 * port : 4 * port + 4]
+        bits are zero, and word 2 is at most 7." "6 also covers words 6 and 7" """
+        return self.word(port, 0) % 4096 == address and self.otherwise_well_formed(port)
+
+    def otherwise_well_formed(self, port):
+        """Well formed at any address."""
+        master, flags, interrupt, _, _, _, sixth, seventh = self.words(port)
         one_side = bool(flags & SRC) != bool(flags & SINK)
-        return master // 4096 <= 4 and master % 4096 == address and one_side and not flags & ZERO_BITS and interrupt <= 7
+        return master // 4096 <= 4 and one_side and not flags & ZERO_BITS and interrupt <= 7 and sixth == seventh == 0
 
     def port_at(self, address):
         """The port number of an address, 0 for none. Damage is refused."""
@@ -67,35 +85,37 @@ class World:
         if word // 4096 > 4:
             return 0
         port = self.port_at(word % 4096)
-        return port if port and self.ports[4 * port] == word and self.ports[4 * port + 1] & side else 0
+        return port if port and self.word(port, 0) == word and self.word(port, 1) & side else 0
 
     def size_of(self, port):
-        return SIZES[self.ports[4 * port] // 4096]
+        return SIZES[self.word(port, 0) // 4096]
 
     def valid_words(self, port):
-        page = self.pages[self.ports[4 * port + 1] & VP]
+        page = self.pages[self.word(port, 1) & VP]
         return page[16 * port : 16 * port + self.size_of(port)]
 
     def fill(self, port, words):
-        """ "copy to the page that is not valid, turn VP, set EVER, clear the status bits, add one fill" """
-        flags = (self.ports[4 * port + 1] ^ VP | EVER) & ~STATUS_BITS
+        """ "copy to the page that is not valid, turn VP, set EVER, clear the status bits, add one fill"; "a taken frame sets it to 0" """
+        flags = (self.word(port, 1) ^ VP | EVER) & ~STATUS_BITS
         self.pages[flags & VP][16 * port : 16 * port + len(words)] = words
-        self.ports[4 * port + 1] = flags
-        self.ports[4 * port + 3] = (self.ports[4 * port + 3] + 1) % 65536
+        self.store(port, 1, flags)
+        self.store(port, 3, (self.word(port, 3) + 1) % 65536)
+        self.store(port, AGE, 0)
 
     def mark(self, port, bits):
         """Exactly these of the status bits are set."""
-        self.ports[4 * port + 1] = self.ports[4 * port + 1] & ~STATUS_BITS | bits
+        self.store(port, 1, self.word(port, 1) & ~STATUS_BITS | bits)
 
     # "Host calls on ports". "Order: 1, 2, 6 for the entry, 3 or 4, 6 for the port words (not on opening), 5, 2 for the size of a write."
 
-    def open(self, address, port, code, sink, interrupt):
+    def open(self, address, port, code, sink, interrupt, limit):
+        """ "Opening takes the limit [..], with age 0." """
         self.areas_fit()
         self.demand(address <= 4095 and 1 <= port <= 255 and code <= 4 and interrupt <= 7, RANGE)
         self.demand(self.index[address] <= 255, DAMAGED)
-        self.demand(self.index[address] == 0 and self.ports[4 * port + 1] == 0, TAKEN)
+        self.demand(self.index[address] == 0 and self.word(port, 1) == 0, TAKEN)
         self.index[address] = port
-        self.ports[4 * port : 4 * port + 4] = [code * 4096 + address, SINK if sink else SRC, interrupt, 0]
+        self.ports[self.place(port)] = [code * 4096 + address, SINK if sink else SRC, interrupt, 0, limit, 0, 0, 0]
 
     def reach(self, address):
         self.areas_fit()
@@ -110,24 +130,28 @@ class World:
         """ "Close zeroes entry and port words; pages stay." """
         port = self.reach(address)
         self.index[address] = 0
-        self.ports[4 * port : 4 * port + 4] = [0, 0, 0, 0]
+        self.ports[self.place(port)] = [0] * STRIDE
 
     def write(self, address, words):
         port = self.reach(address)
-        self.demand(self.ports[4 * port + 1] & SRC, SIDE)
+        self.demand(self.word(port, 1) & SRC, SIDE)
         self.demand(len(words) == self.size_of(port), RANGE)
         self.fill(port, list(words))
 
     def ask(self, address):
-        """ "Asking answers never, good, or held (filled, but STO or TERR set), or a refusal." """
-        flags = self.ports[4 * self.reach(address) + 1]
+        """ "Asking answers never, good, or held (filled, but STO or TERR set), or a refusal." "Read gains stale: filled, no fault, limit
+        nonzero and age at or above it. Never and held come first." """
+        port = self.reach(address)
+        flags, limit, age = self.word(port, 1), self.word(port, LIMIT), self.word(port, AGE)
         if not flags & EVER:
             return "never"
-        return "held" if flags & (STO | TERR) else "good"
+        if flags & (STO | TERR):
+            return "held"
+        return "stale" if limit != 0 and age >= limit else "good"
 
     def fetch(self, address):
         """ "it is empty exactly when asking refuses or answers never" """
-        if self.called(self.ask, address) in ("good", "held"):
+        if self.called(self.ask, address) in ("good", "held", "stale"):
             return self.valid_words(self.index[address])
         return []
 
@@ -184,7 +208,7 @@ class World:
         c.adopted = c.chosen
         if code not in SIZES:
             c.exchange = "idle"
-        elif source and self.ports[4 * source + 1] & EVER:
+        elif source and self.word(source, 1) & EVER:
             self.answer(self.valid_words(source))
         else:
             c.exchange, c.waiting = "waiting", word
@@ -211,8 +235,8 @@ class World:
         if sound:
             if sink:
                 self.fill(sink, frame.words)
-                if self.ports[4 * sink + 2]:
-                    c.raise_bit(2 ** (self.ports[4 * sink + 2] - 1))
+                if self.word(sink, 2):
+                    c.raise_bit(2 ** (self.word(sink, 2) - 1))
             return False
         c.raise_bit(ESF)
         if sink:
@@ -253,3 +277,14 @@ class World:
             c.switch(sets_rld=True)
             c.line_count = 0
         c.line_rule_5()
+        c.phase += 1
+        if c.phase == MILLISECOND:
+            c.phase = 0
+            self.age_sinks()
+
+    def age_sinks(self):
+        """ "adds one to the age of each open sink, stopping at 65,535"; "Ageing goes by port words alone, at any address, and passes over
+        those otherwise not well formed." """
+        for port in range(1, 256):
+            if self.word(port, 1) & SINK and self.otherwise_well_formed(port):
+                self.store(port, AGE, min(self.word(port, AGE) + 1, 65535))

@@ -24,7 +24,7 @@ pub(crate) struct Desk {
 fn full() -> Lent {
     Lent {
         index: 4096,
-        ports: 1024,
+        ports: 2048,
         page0: 4096,
         page1: 4096,
     }

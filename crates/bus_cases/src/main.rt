@@ -1,12 +1,12 @@
-// Document 01's numbers, run: a script of calls is read from standard input, each call is made, and a line is printed for each answer.
+// The numbers of documents 01 and 02, run: a script of calls is read from standard input, each call is made, and a line is printed for each answer.
 //
 // A line of the script is a command and decimal numbers, with a space between two; a number above 65,535 counts modulo 65,536, but for
-// `quiet` and `hear`. A line that begins with # is printed as it stands, and any other line does nothing. Input of 65,536 bytes or more
+// `quiet` and `hear`. A line that begins with # is printed as it stands, and any other line does nothing. Input of 262,144 bytes or more
 // is `input too long`.
 //
 //   begin                       cleared areas, a fresh controller, silence on both lines
 //   lengths I P Q R             how many words of the index table, the port words, page 0 and page 1 are lent from here on
-//   open A P CODE SINK INT · close A · write A WORDS · ask A · fetch A
+//   open A P CODE SINK INT LIMIT · close A · write A WORDS · ask A · fetch A
 //   a KIND MARKS WORDS / CHECKS what line A hears from here on; b for line B, both for both lines. KIND is silence, noise, master or
 //                               slave; MARKS are any of sqe, violation, alo
 //   hear N                      the event, N times (once without a number): the last answer is printed, with its reply
@@ -17,7 +17,7 @@
 //   state · port A · pages A · areas · mark · same     what controller and areas hold (see src/show.rt)
 //
 // What must be printed, the file stdout, does not come from this program or from the crates that it runs: make.py writes stdin and
-// stdout from a controller of its own, written from document 01. No function here promises anything of its result; all are proved to
+// stdout from a controller of its own, written from documents 01 and 02. No function here promises anything of its result; all are proved to
 // be safe and to end.
 mod bits;
 mod desk;
@@ -37,11 +37,11 @@ mod step;
 
 use libc::STDIN_FILENO;
 
-// The length of the buffer. Where the input fills it, more of it may follow.
-const ROOM: usize = 65536;
+// The length of the buffer; make.py reads it here. Where the input fills it, more of it may follow.
+const ROOM: usize = 262144;
 
 fn main() {
-    let mut buffer = io::large_buffer();
+    let mut buffer = [0u8; ROOM];
     let n = io::read_full(STDIN_FILENO, &mut buffer);
     if n == ROOM {
         say::text(b"input too long\n");

@@ -4,7 +4,7 @@ use model::Controller;
 use model::Exchange;
 
 // How many numbers a controller is.
-pub(crate) const NUMBERS: usize = 23;
+pub(crate) const NUMBERS: usize = 24;
 
 fn stage(x: Exchange) -> u16 {
     match x {
@@ -54,5 +54,6 @@ pub(crate) fn numbers_of(c: Controller) -> [u16; NUMBERS] {
         d.address,
         bit(d.set),
         d.status,
+        c.phase,
     ]
 }

@@ -29,6 +29,7 @@ fn open_or_close(
             w[2],
             w[3] == 1,
             w[4],
+            w[5],
         );
     }
     host_ports::calls::close(index, ports, page0, page1, w[0])

@@ -31,6 +31,7 @@ pub(crate) fn answer(x: Answer) {
         Answer::Never => text(b"ask never\n"),
         Answer::Good => text(b"ask good\n"),
         Answer::Held => text(b"ask held\n"),
+        Answer::Stale => text(b"ask stale\n"),
         Answer::Refused(n) => told(b"ask ", n),
     }
 }

@@ -2,9 +2,9 @@
 //
 // `state` is the exchange (0 idle, 1 waiting, 2 done) with the master word that is waited for, the time since the last sound master frame,
 // the line count, the reply times chosen and adopted, the line state, the counts, each group (pending, mask, status, frozen) and the device
-// (address, whether a status word is set, the word). `port A` is the entry of address A and the four words of that port, `pages A` its part
-// of each page. `areas` is a sum of each area, in which each word at each place counts. `same` says whether all of that is as it was at the
-// last `mark`.
+// (address, whether a status word is set, the word) and the phase. `port A` is the entry of address A and the eight words of that port,
+// `pages A` its part of each page. `areas` is a sum of each area, in which each word at each place counts. `same` says whether all of that is
+// as it was at the last `mark`.
 use crate::desk::Desk;
 use crate::names::AREAS;
 use crate::names::MARK;
@@ -15,6 +15,7 @@ use crate::names::STATE;
 use crate::numbers::numbers_of;
 use crate::say;
 use areas::layout::get;
+use areas::layout::get_port;
 use logic::least;
 use model::Controller;
 
@@ -53,6 +54,7 @@ fn label(i: usize) {
         10 => say::text(b" counts"),
         12 | 16 => say::text(b" group"),
         20 => say::text(b" device"),
+        23 => say::text(b" phase"),
         _ => {}
     }
 }
@@ -73,18 +75,22 @@ fn state(c: Controller) {
     say::end();
 }
 
-fn word(area: &[u16], at: usize) {
-    say::named(b" ", get(area, at));
-}
-
 fn port(index: &[u16], ports: &[u16], a: u16) {
     let e = get(index, a as usize);
-    let at = e as usize * 4;
+    let w = get_port(ports, e);
     say::named(b"port ", e);
-    word(ports, at);
-    word(ports, at + 1);
-    word(ports, at + 2);
-    word(ports, at + 3);
+    say::each(
+        &[
+            w.master,
+            w.flags,
+            w.interrupt,
+            w.fills,
+            w.limit,
+            w.age,
+            w.sixth,
+            w.seventh,
+        ],
+    );
     say::end();
 }
 

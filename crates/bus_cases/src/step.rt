@@ -21,7 +21,7 @@ use logic::either;
 // The areas have a word more than document 01's, so that one can be lent too long.
 pub(crate) const INDEX: usize = 4097;
 
-pub(crate) const PORTS: usize = 1025;
+pub(crate) const PORTS: usize = 2049;
 
 pub(crate) const PAGE: usize = 4097;
 

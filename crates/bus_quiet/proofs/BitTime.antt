@@ -1,5 +1,5 @@
--- One quiet bit time: the controller's part asks nothing of the areas, each part of it as the code computes it, and one bit time after n.
--- Assumes nothing.
+-- The rules of one quiet bit time: the controller's part asks nothing of the areas, each part of it as the code computes it; and those of one
+-- bit time after n. Assumes nothing.
 use Prim.Native.Nat.{ℕ, zero, suc, _+_}
 use mathlib.Core.Path.{_≡_, refl}
 use mathlib.Core.Bool.{Bool, true, false, cond, _&&_}
@@ -13,17 +13,17 @@ use Rattle.model.specs.declared.Exchange.{Exchange}
 use Rattle.model.specs.declared.Exchange.the-variants.{Idle, Waiting, Done}
 use Rattle.model.specs.declared.Times.{Times}
 use Rattle.model.specs.Event.{World, raiseAll, when}
-use Rattle.model.specs.Quiet.{busTimeout, sinceLater, expired, busSilent, isSome, tickController, tick, ticks}
-use Rattle.bus_quiet.specs.Quiet.{tickOf, sinceAfter, dueIn}
+use Rattle.model.specs.Quiet.{busTimeout, sinceLater, expired, busSilent, isSome, pulseController, pulse, pulses}
+use Rattle.bus_quiet.specs.Quiet.{pulseOf, sinceAfter, dueIn}
 
 raise-both : (a b : Bool) (i j : ℕ) (g : Group) → raiseAll (when a i ++ when b j) g ≡ raiseAll (when b j) (raiseAll (when a i) g)
 raise-both true b i j g = refl
 raise-both false b i j g = refl
 
--- the controller after one quiet bit time does not depend on the areas
-pub tick-controller : (s : World) → tickController s ≡ tickOf (s .controller)
-unfolding tickController tickOf
-tick-controller s =
+-- the controller after the rules of one quiet bit time does not depend on the areas
+pub pulse-controller : (s : World) → pulseController s ≡ pulseOf (s .controller)
+unfolding pulseController pulseOf
+pulse-controller s =
     let c = s .controller in
     let e = expired (c .exchange) (c .times) in
     rw (raise-both (isSome e) (busSilent (c .times)) RTI BTI (c .group0))
@@ -50,8 +50,8 @@ bus-next t = go (ltb (t .since) busTimeout) refl
     go true e = let one : sinceAfter 1 (t .since) ≡ t .since + 1 = omega (arith, ltb-true (t .since) busTimeout e) in rw one
     go false e = refl
 
--- n bit times and then one
-pub ticks-suc : (n : ℕ) (s : World) → ticks (suc n) s ≡ tick (ticks n s)
-unfolding ticks
-ticks-suc zero s = refl
-ticks-suc (suc n) s = ticks-suc n (tick s)
+-- the rules of n bit times and then of one
+pub pulses-suc : (n : ℕ) (s : World) → pulses (suc n) s ≡ pulse (pulses n s)
+unfolding pulses
+pulses-suc zero s = refl
+pulses-suc (suc n) s = pulses-suc n (pulse s)

@@ -1,5 +1,5 @@
--- Quiet time all at once: bit times that surely bring nothing only make the times later, whatever the controller holds. By one bit time
--- after the other, none of which reaches a timeout or lets a rule act. Assumes nothing.
+-- The rules of quiet time all at once: bit times that surely bring nothing only make the times later, whatever the controller holds. By one
+-- bit time after the other, none of which reaches a timeout or lets a rule act. Assumes nothing.
 use Prim.Native.Nat.{ℕ, zero, suc, _+_, _-_, _≤_, _<_, min}
 use mathlib.Core.Path.{_≡_, refl, _∙_, ap}
 use mathlib.Core.Bool.{Bool, true, false, cond, true≢false, and-false}
@@ -19,11 +19,11 @@ use Rattle.model.specs.Lines.{lines, acts5, rule1, rule2, rule5}
 use Rattle.model.specs.Host.{controller}
 use Rattle.model.specs.Event.{World, world}
 use Rattle.model.specs.Quiet.{busTimeout, lineTimeout, times, sinceLater, expired, busSilent, lineSilent, isSome, linesLater}
-use Rattle.model.specs.Quiet.{tickEffect, tickController, tick, ticks}
+use Rattle.model.specs.Quiet.{pulseEffect, pulseController, pulse, pulses}
 use Rattle.bus_quiet.specs.Quiet.{sinceAfter}
 use Rattle.bus_quiet.specs.Jump.{beforeReply, beforeBus, beforeLine, beforeAny, free, later, passed, jumped}
 use Rattle.bus_quiet.specs.Resting.{resting, rolled}
-use Rattle.bus_quiet.proofs.BitTime.{one-later, ticks-suc}
+use Rattle.bus_quiet.proofs.BitTime.{one-later, pulses-suc}
 use Rattle.bus_quiet.proofs.Roll.{roll}
 
 -- rules 1, 2 and 5 without an occasion
@@ -84,12 +84,12 @@ free-line c = go (acts5 (c .lines))
     go false = omega arith
 
 -- one bit time more
-still : (n : ℕ) (c : Controller) (m : Areas) → n < free c → tick (world (later n c) m) ≡ world (later (suc n) c) m
-unfolding tick tickController tickEffect apply free later on
+still : (n : ℕ) (c : Controller) (m : Areas) → n < free c → pulse (world (later n c) m) ≡ world (later (suc n) c) m
+unfolding pulse pulseController pulseEffect apply free later on
 still n c m h = go (acts5 (c .lines)) refl h
   where
     go : (b : Bool) → acts5 (c .lines) ≡ b → n < cond b 0 (beforeAny (c .exchange) (c .times))
-        → tick (world (later n c) m) ≡ world (later (suc n) c) m
+        → pulse (world (later n c) m) ≡ world (later (suc n) c) m
     go true e k = absurd (omega arith)
     go false e k =
         let line : c .times .line + n + 1 ≡ c .times .line + suc n = omega arith in
@@ -103,18 +103,18 @@ still n c m h = go (acts5 (c .lines)) refl h
         )
 
 -- a bit times and then b
-ticks-add : (a b : ℕ) (s : World) → ticks (a + b) s ≡ ticks b (ticks a s)
-unfolding ticks
-ticks-add zero b s = rw zero-add
-ticks-add (suc a) b s = rw suc-add (ticks-add a b (tick s))
+pulses-add : (a b : ℕ) (s : World) → pulses (a + b) s ≡ pulses b (pulses a s)
+unfolding pulses
+pulses-add zero b s = rw zero-add
+pulses-add (suc a) b s = rw suc-add (pulses-add a b (pulse s))
 
 -- k bit times that surely bring nothing, passed at once.
-jump : (k : ℕ) (s : World) → k ≤ free (s .controller) → ticks k s ≡ world (later k (s .controller)) (s .areas)
-unfolding ticks later
+jump : (k : ℕ) (s : World) → k ≤ free (s .controller) → pulses k s ≡ world (later k (s .controller)) (s .areas)
+unfolding pulses later
 jump zero s h =
     let since : sinceAfter 0 (s .controller .times .since) ≡ s .controller .times .since = omega arith in
     rw (since, add-zero)
-jump (suc n) s h = ticks-suc n s ∙ ap tick (jump n s (omega arith)) ∙ still n (s .controller) (s .areas) h
+jump (suc n) s h = pulses-suc n s ∙ ap pulse (jump n s (omega arith)) ∙ still n (s .controller) (s .areas) h
 
 -- No jump leaves more bit times than there were.
 pub left-at-most : (n : ℕ) (c : Controller) → jumped n c .left ≤ n
@@ -125,16 +125,16 @@ left-at-most n c = go (resting c)
     go true = omega arith
     go false = omega arith
 
--- n bit times: a jump, and what is left of them.
+-- the rules of n bit times: a jump, and what is left of them
 pub jump-on : (n : ℕ) (s : World)
-    → ticks n s ≡ ticks (jumped n (s .controller) .left) (world (jumped n (s .controller) .controller) (s .areas))
-unfolding jumped ticks
+    → pulses n s ≡ pulses (jumped n (s .controller) .left) (world (jumped n (s .controller) .controller) (s .areas))
+unfolding jumped pulses
 jump-on n s = go (resting (s .controller)) refl
   where
     go : (b : Bool) → resting (s .controller) ≡ b
-        → ticks n s ≡ ticks (jumped n (s .controller) .left) (world (jumped n (s .controller) .controller) (s .areas))
+        → pulses n s ≡ pulses (jumped n (s .controller) .left) (world (jumped n (s .controller) .controller) (s .areas))
     go true e = rw e (roll n s e)
     go false e =
         let k = min n (free (s .controller)) in
         let all : n ≡ k + (n - k) = omega arith in
-        rw e (ap (λ (j : ℕ). ticks j s) all ∙ ticks-add k (n - k) s ∙ ap (ticks (n - k)) (jump k s (omega arith)))
+        rw e (ap (λ (j : ℕ). pulses j s) all ∙ pulses-add k (n - k) s ∙ ap (pulses (n - k)) (jump k s (omega arith)))

@@ -1,4 +1,4 @@
--- Quiet time to its end: where nothing but line timeouts is to come, any number of bit times passed at once. By one bit time after the
+-- The rules of quiet time to its end: where nothing but line timeouts is to come, any number of bit times passed at once. By one bit time after the
 -- other, which brings a line timeout or only later times. Assumes nothing.
 use Prim.Native.Nat.{ℕ, zero, suc, _+_, _/_, _%_, _≤_, _<_}
 use mathlib.Core.Path.{_≡_, refl, sym, _∙_, ap}
@@ -16,10 +16,10 @@ use Rattle.model.specs.Layout.{Areas}
 use Rattle.model.specs.Ports.{apply}
 use Rattle.model.specs.Lines.{lines, rule1, rule2, rule5}
 use Rattle.model.specs.Event.{World, world}
-use Rattle.model.specs.Quiet.{busTimeout, lineTimeout, sinceLater, expired, lineSilent, isSome, linesLater, tickEffect, tickController}
-use Rattle.model.specs.Quiet.{tick, ticks}
+use Rattle.model.specs.Quiet.{busTimeout, lineTimeout, sinceLater, expired, lineSilent, isSome, linesLater, pulseEffect, pulseController}
+use Rattle.model.specs.Quiet.{pulse, pulses}
 use Rattle.bus_quiet.specs.Resting.{resting, lineCount, timesRolled, unpaired, switches, rolled}
-use Rattle.bus_quiet.proofs.BitTime.{ticks-suc}
+use Rattle.bus_quiet.proofs.BitTime.{pulses-suc}
 
 -- what `resting` tests
 record Resting (c : Controller) : Type 0 where
@@ -101,8 +101,8 @@ module _ (n : ℕ) (t : Times) where
           let same : lineCount (suc n) t / lineTimeout ≡ lineCount n t / lineTimeout = omega arith in
           rw same
 
-one-more : (n : ℕ) (c : Controller) (m : Areas) → Resting c → tick (world (rolled n c) m) ≡ world (rolled (suc n) c) m
-unfolding tick tickController tickEffect apply rolled
+one-more : (n : ℕ) (c : Controller) (m : Areas) → Resting c → pulse (world (rolled n c) m) ≡ world (rolled (suc n) c) m
+unfolding pulse pulseController pulseEffect apply rolled
 one-more n c m h =
     let t = c .times in
     rw (
@@ -122,8 +122,8 @@ none-passed c h =
     let timeouts : lineCount 0 t / lineTimeout ≡ 0 = omega (arith, h .short) in
     rw (count, timeouts)
 
--- n bit times where nothing but line timeouts is to come, passed at once.
-pub roll : (n : ℕ) (s : World) → resting (s .controller) ≡ true → ticks n s ≡ world (rolled n (s .controller)) (s .areas)
-unfolding ticks
+-- the rules of n bit times where nothing but line timeouts is to come, passed at once
+pub roll : (n : ℕ) (s : World) → resting (s .controller) ≡ true → pulses n s ≡ world (rolled n (s .controller)) (s .areas)
+unfolding pulses
 roll zero s h = ap (λ (c : Controller). world c (s .areas)) (sym (none-passed (s .controller) (tests (s .controller) h)))
-roll (suc n) s h = ticks-suc n s ∙ ap tick (roll n s h) ∙ one-more n (s .controller) (s .areas) (tests (s .controller) h)
+roll (suc n) s h = pulses-suc n s ∙ ap pulse (roll n s h) ∙ one-more n (s .controller) (s .areas) (tests (s .controller) h)

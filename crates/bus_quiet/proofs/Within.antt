@@ -17,7 +17,7 @@ use Rattle.model.specs.declared.Device.{Device}
 use Rattle.model.specs.Layout.{Areas}
 use Rattle.model.specs.Host.{controller}
 use Rattle.model.specs.Event.{World, world}
-use Rattle.model.specs.Quiet.{sinceLater, timesLater, tickController, tick, dueWithin}
+use Rattle.model.specs.Quiet.{sinceLater, timesLater, pulseController, pulse, dueWithin}
 use Rattle.bus_basics.specs.declared.Due.{Due}
 use Rattle.bus_basics.specs.declared.Due.the-variants.{No, Word}
 use Rattle.bus_basics.specs.Due.{dueWord}
@@ -43,19 +43,19 @@ not-yet (suc n) w t e =
     rw (same, some-time n, some-time (suc n))
 
 -- by the controller's parts
-due-parts : (n : ℕ) (x : Exchange) (t : Times) (l : Lines) (k : Counts) (g₀ g₁ : Group) (d : Device) (m : Areas)
-    → dueWithin n (world (controller x t l k g₀ g₁ d) m) ≡ dueIn n x t
-unfolding dueWithin tick tickController
-due-parts zero x t l k g₀ g₁ d m = nothing-yet x t
-due-parts (suc n) Idle t l k g₀ g₁ d m = due-parts n Idle (timesLater t) _ k _ g₁ d _
-due-parts (suc n) Done t l k g₀ g₁ d m = due-parts n Done (timesLater t) _ k _ g₁ d _
-due-parts (suc n) (Waiting w) t l k g₀ g₁ d m =
-    go (leb (t .adopted) (sinceLater t)) refl (λ l g₀ m. due-parts n (Waiting w) (timesLater t) l k g₀ g₁ d m)
+due-parts : (n : ℕ) (x : Exchange) (t : Times) (l : Lines) (k : Counts) (g₀ g₁ : Group) (d : Device) (p : ℕ) (m : Areas)
+    → dueWithin n (world (controller x t l k g₀ g₁ d p) m) ≡ dueIn n x t
+unfolding dueWithin pulse pulseController
+due-parts zero x t l k g₀ g₁ d p m = nothing-yet x t
+due-parts (suc n) Idle t l k g₀ g₁ d p m = due-parts n Idle (timesLater t) _ k _ g₁ d p _
+due-parts (suc n) Done t l k g₀ g₁ d p m = due-parts n Done (timesLater t) _ k _ g₁ d p _
+due-parts (suc n) (Waiting w) t l k g₀ g₁ d p m =
+    go (leb (t .adopted) (sinceLater t)) refl (λ l g₀ m. due-parts n (Waiting w) (timesLater t) l k g₀ g₁ d p m)
   where
     go : (b : Bool) → leb (t .adopted) (sinceLater t) ≡ b
-        → ((l : Lines) (g₀ : Group) (m : Areas) → dueWithin n (world (controller (Waiting w) (timesLater t) l k g₀ g₁ d) m)
+        → ((l : Lines) (g₀ : Group) (m : Areas) → dueWithin n (world (controller (Waiting w) (timesLater t) l k g₀ g₁ d p) m)
         ≡ dueIn n (Waiting w) (timesLater t))
-        → dueWithin (suc n) (world (controller (Waiting w) t l k g₀ g₁ d) m) ≡ dueIn (suc n) (Waiting w) t
+        → dueWithin (suc n) (world (controller (Waiting w) t l k g₀ g₁ d p) m) ≡ dueIn (suc n) (Waiting w) t
     go true e r =
         let h = leb-true (t .adopted) (sinceLater t) e in
         rw (e, some-time n, le-leb (t .adopted) (sinceAfter (suc n) (t .since)) (omega (arith, one-later t)))
@@ -64,7 +64,8 @@ due-parts (suc n) (Waiting w) t l k g₀ g₁ d m =
 -- The master word whose reply time is reached within n bit times, if one is.
 pub due-in : (n : ℕ) (s : World) → dueWithin n s ≡ dueIn n (s .controller .exchange) (s .controller .times)
 due-in n s =
-    let c = s .controller in due-parts n (c .exchange) (c .times) (c .lines) (c .counts) (c .group0) (c .group1) (c .device) (s .areas)
+    let c = s .controller in
+    due-parts n (c .exchange) (c .times) (c .lines) (c .counts) (c .group0) (c .group1) (c .device) (c .phase) (s .areas)
 
 -- two answers that name the same word are the same
 same-due : (x y : Due) → dueWord x ≡ dueWord y → x ≡ y

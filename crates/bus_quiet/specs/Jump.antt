@@ -1,4 +1,4 @@
--- Document 01, "Quiet time": how many bit times surely bring nothing but later times, the controller after as many, and how far quiet time
+-- Document 01, "Quiet time": by the rules, how many bit times surely bring nothing but later times, the controller after as many, and how far quiet time
 -- goes at once. Assumes nothing.
 use Prim.Native.Nat.{ℕ, _+_, _-_, min}
 use mathlib.Core.Bool.{cond}

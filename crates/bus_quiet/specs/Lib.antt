@@ -1,3 +1,4 @@
 pub mod Quiet
 pub mod Resting
 pub mod Jump
+pub mod Phase

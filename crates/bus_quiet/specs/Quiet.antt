@@ -13,9 +13,9 @@ use Rattle.model.specs.Event.{raiseAll, when}
 use Rattle.model.specs.Parts.{withExchange, withTimes, withLines, withGroup0}
 use Rattle.model.specs.Quiet.{busTimeout, expired, busSilent, lineSilent, timesLater, exchangeLater, isSome, linesLater}
 
--- the controller after one quiet bit time
-unfoldable pub tickOf : Controller → Controller
-tickOf c =
+-- the controller after the rules of one quiet bit time
+unfoldable pub pulseOf : Controller → Controller
+pulseOf c =
     let e = expired (c .exchange) (c .times) in
     withExchange (exchangeLater (c .exchange) e)
     (withTimes (timesLater (c .times))

@@ -1,11 +1,13 @@
-// What quiet time does to the controller (document 01, "Quiet time"): one bit time by itself (`quiet`), many that bring nothing at once
-// (`passing`), and any number that bring line timeouts alone (`resting`). No area is touched.
+// What quiet time does to the controller. Document 01, "Quiet time", the rules of a bit time: of one by itself (`quiet`), of many that bring
+// nothing at once (`passing`), and of any number that bring line timeouts alone (`resting`). Document 02, W-205, the end of a bit time: the
+// milliseconds that end within many (`phase`). No area is touched.
 //
 // Each promise is an equation with a definition of the crate `model`, or with one of specs/ here, of which proofs/ shows what it says of
 // the model's: BitTime for one bit time, Roll, Jump and Within for many. No public function asks anything of its caller.
 use model::Controller;
 
 pub mod passing;
+pub mod phase;
 pub mod quiet;
 pub mod resting;
 

@@ -16,7 +16,7 @@ ghost use mathlib.Core.Option.{none, some};
 ghost use Prim.Native.Nat.{_+_};
 ghost use Rattle.model.specs.Quiet.{expired, busSilent, lineSilent, timesLater, exchangeLater, isSome, disturbsLate, linesLater};
 ghost use Rattle.bus_basics.specs.Due.{dueWord};
-ghost use Rattle.bus_quiet.specs.Quiet.{tickOf, sinceAfter, dueIn};
+ghost use Rattle.bus_quiet.specs.Quiet.{pulseOf, sinceAfter, dueIn};
 
 // The time since the last sound master frame, n bit times later: it stops at the bus timeout.
 pub fn since_after(n: u32, since: u16) -> u16
@@ -131,9 +131,9 @@ fn lines_later(l: Lines, d: Due, timeout: bool) -> Lines
     bus_lines::rule5(bus_lines::rule2(timeout, bus_lines::rule1(disturbs_late(d), l)))
 }
 
-// The controller after one quiet bit time.
-pub fn tick_controller(c: Controller) -> Controller
-    ensures { λ r. ⌜ r ≡ tickOf c ⌝ }
+// The controller after the rules of one quiet bit time.
+pub fn pulse_controller(c: Controller) -> Controller
+    ensures { λ r. ⌜ r ≡ pulseOf c ⌝ }
 {
     let x = c.exchange;
     let t = c.times;
@@ -155,5 +155,6 @@ pub fn tick_controller(c: Controller) -> Controller
         ),
         group1,
         device,
+        phase: c.phase,
     }
 }

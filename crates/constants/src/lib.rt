@@ -33,6 +33,11 @@ pub const BUS_TIMEOUT: u16 = 1950;
 
 pub const LINE_TIMEOUT: u16 = 2130;
 
+// A millisecond, in bit times, and where an age stops, in milliseconds.
+pub const MILLISECOND: u16 = 1500;
+
+pub const OLDEST: u16 = 65535;
+
 // Where EC stops.
 pub const LAST_EC: u16 = 65535;
 
@@ -47,12 +52,12 @@ pub const STATUS_RLD: u16 = 64;
 // The lengths of the index table, of the port words and of a page.
 pub const INDEX: usize = 4096;
 
-pub const PORTS: usize = 1024;
+pub const PORTS: usize = 2048;
 
 pub const PAGE: usize = 4096;
 
-// A port has four port words, and owns sixteen words of each page.
-pub const PORT_WORDS: usize = 4;
+// A port has eight port words, and owns sixteen words of each page.
+pub const PORT_WORDS: usize = 8;
 
 pub const PAGE_WORDS: usize = 16;
 

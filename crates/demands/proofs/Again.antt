@@ -29,8 +29,8 @@ zeroed {u} {v} {c} {q = q} e m = (q, (v, subst (λ (k : ℕ). Made u c k q v) (n
 again : {s t : World} {c : Call} {n : ℕ} {r : Hearing} → Made s c n r t → Callable c
 again (by-hear {a} {b} p) u e = let o = outcome (hear a b) u in zeroed e (by-hear {m = o .world .areas} {r = asAnswered o} refl)
 again (by-quiet {n} p) u e = let o = outcome (quiet n) u in zeroed e (by-quiet {m = o .world .areas} {r = asAnswered o} refl)
-again (by-open {a} {p} {code} {sink} {i} eq) u e =
-    let o = hostCall (openPort a p code sink i) (u .areas) in
+again (by-open {a} {p} {code} {sink} {i} {limit} eq) u e =
+    let o = hostCall (openPort a p code sink i limit) (u .areas) in
     zeroed e (by-open {m = o .after} {n = o .number} refl)
 again (by-close {a} p) u e = let o = hostCall (closePort a) (u .areas) in zeroed e (by-close {m = o .after} {n = o .number} refl)
 again (by-write {a} {ws} p) u e = let o = hostCall (writePort a ws) (u .areas) in zeroed e (by-write {m = o .after} {n = o .number} refl)

@@ -56,7 +56,8 @@ module _ (c : Controller) where
   -- opening gives `by-open`
   pub made-open : (κs : _) (a : _) (r : _) (e : _) → open-reads.Learnt κs a r e
       → Made (world c (lent (a .0) (a .1 .0) (a .1 .1 .0) (a .1 .1 .1 .0)))
-      (openPort (a .1 .1 .1 .1 .0) (a .1 .1 .1 .1 .1 .0) (a .1 .1 .1 .1 .1 .1 .0) (a .1 .1 .1 .1 .1 .1 .1 .0) (a .1 .1 .1 .1 .1 .1 .1 .1 .0))
+      (openPort (a .1 .1 .1 .1 .0) (a .1 .1 .1 .1 .1 .0) (a .1 .1 .1 .1 .1 .1 .0) (a .1 .1 .1 .1 .1 .1 .1 .0) (a .1 .1 .1 .1 .1 .1 .1 .1 .0)
+      (a .1 .1 .1 .1 .1 .1 .1 .1 .1 .0))
       r silent (world c (lent (e .0) (e .1 .0) (a .1 .1 .0) (a .1 .1 .1 .0)))
   made-open κs a r e p = by-open p
 

@@ -15,7 +15,7 @@ use Rattle.model.specs.Lines.{trusted}
 use Rattle.model.specs.Event.{World, silent, spoken}
 use Rattle.model.specs.Calls.{Call, hear, quiet, refusal, tests, Silent, First, step, answer, Outcome, outcome}
 use Rattle.model.specs.Past.{Typed, firstWord}
-use Rattle.model.specs.Taken.{answersNow, OnlyStatus}
+use Rattle.model.specs.Taken.{answersNow, OnlyStatus, StatusAndAges}
 use Rattle.model.specs.Damage.{SoundMaster}
 use Rattle.model.proofs.Refused.{refused as refused-with, accepted-exactly as accepts-exactly}
 use Rattle.model.proofs.Anywhere as anywhere
@@ -90,6 +90,6 @@ module _ {s t : World} {a b r : Hearing} (made : Made s (hear a b) 0 r t) where
       → OnlyStatus (s .areas) (t .areas)
   others typed away = rw (← (accepted-step made refl .0)) (anywhere.others-anywhere s a b accepts typed away)
 
--- Accepted quiet time changes no area but for status bits.
-pub quiet-marks : {s t : World} {n : ℕ} {r : Hearing} → Made s (quiet n) 0 r t → OnlyStatus (s .areas) (t .areas)
+-- Accepted quiet time changes no area but for status bits and ages.
+pub quiet-marks : {s t : World} {n : ℕ} {r : Hearing} → Made s (quiet n) 0 r t → StatusAndAges (s .areas) (t .areas)
 quiet-marks {s} {n = n} made = rw (← (accepted-step made refl .0)) (anywhere.quiet-anywhere s n (sym (number-exactly made)))

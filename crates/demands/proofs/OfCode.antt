@@ -11,17 +11,20 @@ use Rattle.frames.specs.declared.Hearing.{Hearing}
 use Rattle.frames.specs.Hearing.{wordsOf}
 use Rattle.interrupts.specs.Names.{SFC}
 use Rattle.model.specs.declared.Answer.{Answer}
-use Rattle.model.specs.declared.Answer.the-variants.{Never, Refused}
-use Rattle.model.specs.Layout.{Areas}
+use Rattle.model.specs.declared.Answer.the-variants.{Never, Refused, Stale}
+use Rattle.model.specs.Layout.{Areas, portAt, flagsOf}
 use Rattle.model.specs.Lines.{LineBits}
-use Rattle.model.specs.Ports.{codeOf, addressOf, hasPorts, Standing, standing, view}
+use Rattle.model.specs.Ports.{codeOf, addressOf, hasPorts, Standing, standing, view, oldest}
 use Rattle.model.specs.Event.{World, interruptOf, raiseAll, spoken}
 use Rattle.model.specs.Calls.{Call, hear, step, answer, asked, refusalOf, fetched, start}
 use Rattle.model.specs.Past.{after, Typed, Accepted, onTrusted, firstWord, lastSettings, answers, Opening, openingOf, answersSince}
 use Rattle.model.specs.Past.{writesSince, lastOf, sourceTold, linesPolled, statusTold, replyIn, fillings, viewWith, toldView, shownWords}
 use Rattle.model.specs.Past.{takenIf, framesJudged, framesUnsound}
+use Rattle.model.specs.StatusBits.{faultsTold}
+use Rattle.model.specs.Age.{ageSince, askedTold, IsStale}
 use Rattle.model.specs.Damage.{SoundMaster}
 use Rattle.model.proofs.Demands as demand
+use Rattle.model.proofs.Ages as ages
 use Rattle.model.proofs.Empty.{empty-exactly as empty-of}
 use Rattle.demands.specs.Made.{Made, Ran, begun, accepted, refused}
 use Rattle.demands.proofs.OfCall.{number-exactly, refused-unchanged, accepted-step}
@@ -147,6 +150,22 @@ module _ {past : List Call} {s : World} (calls : Ran past s) where
     -- An open port is not refused.
     pub ask-open : (x : Answer) → x ≡ asked (s .areas) a → refusalOf x ≡ 0
     ask-open x e = rw (e, ← same) (demand.ask-open past all a o stands)
+
+    -- The age of an open sink is the milliseconds that ended since its last taken frame, or since its opening, at most 65,535.
+    pub age-told : o .sink ≡ true → portAt (s .areas) (o .port) .age ≡ min oldest (ageSince past a (o .word))
+    age-told k = rw (← same) (ages.age-told past all a o stands k)
+
+    -- The status bits of an open sink are what the last exchange of its master word left since it was opened; a source has none.
+    pub faults-told : flagsOf (portAt (s .areas) (o .port) .flags) .faults ≡ faultsTold past a o
+    faults-told = rw (← same) (ages.faults-told past all a o stands)
+
+    -- What asking answers is what the past tells: never, held, stale or good.
+    pub ask-told : (x : Answer) → x ≡ asked (s .areas) a → x ≡ askedTold past a o
+    ask-told x e = e ∙ rw (← same) (ages.asked-told past all a o stands)
+
+    -- Asking answers stale exactly when the port was filled, is not held, is supervised, and its age is at or above its limit.
+    pub ask-stale : (x : Answer) → x ≡ asked (s .areas) a → (x ≡ Stale) ↔ IsStale past a o
+    ask-stale x e = rw (e, ← same) (ages.ask-stale past all a o stands)
 
     -- Fetching hands back the words that filled the port last, and none where nothing did.
     pub fetch-shows : (ws : List ℕ) → ws ≡ fetched (s .areas) a → ws ≡ shownWords (lastOf (fillings past a o))

@@ -7,7 +7,7 @@ use Rattle.model.specs.Ports.{codeOf, view}
 use Rattle.model.specs.Event.{World, spoken}
 use Rattle.model.specs.Calls.{Call, hear, answer}
 use Rattle.model.specs.Past.{firstWord}
-use Rattle.model.specs.Taken.{OnlyStatus}
+use Rattle.model.specs.Taken.{StatusAndAges}
 use Rattle.model.specs.Damage.{Damage, SoundMaster}
 use Rattle.model.specs.Differ.{AllHosts, Follows, waitingAddress, doubtful, MayDiffer, Unseen}
 use Rattle.model.proofs.Damage.{stretch-marks, stretch-unseen}
@@ -21,8 +21,8 @@ use Rattle.demands.proofs.Again.{runs-without}
 -- ---- during the stretch
 
 module _ (before stretch : List Call) (d : Damage before stretch) {u s : World} (short : Ran before u) (long : Ran (stretch ++ before) s) where
-  -- During a stretch of damage only status bits change in the areas.
-  pub only-status : OnlyStatus (u .areas) (s .areas)
+  -- During a stretch of damage only status bits and ages change in the areas.
+  pub only-status : StatusAndAges (u .areas) (s .areas)
   only-status = rw (← (ran short .same), ← (ran long .same)) (stretch-marks before stretch (ran long .all) d)
 
   -- No address shows anything else.

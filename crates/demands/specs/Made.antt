@@ -29,8 +29,8 @@ pub data Made (s : World) : Call → ℕ → Hearing → World → Type 0 where
   by-quiet : {n : ℕ} {m : Areas} {r : Answered} → asOutcome m r ≡ outcome (quiet n) s
       → Made s (quiet n) (r .refusal) (r .reply) (world (r .controller) m)
   -- host_ports::calls; asking and fetching change nothing
-  by-open : {a p code : ℕ} {sink : Bool} {i : ℕ} {m : Areas} {n : ℕ} → out m n ≡ hostCall (openPort a p code sink i) (s .areas)
-      → Made s (openPort a p code sink i) n silent (world (s .controller) m)
+  by-open : {a p code : ℕ} {sink : Bool} {i limit : ℕ} {m : Areas} {n : ℕ} → out m n ≡ hostCall (openPort a p code sink i limit) (s .areas)
+      → Made s (openPort a p code sink i limit) n silent (world (s .controller) m)
   by-close : {a : ℕ} {m : Areas} {n : ℕ} → out m n ≡ hostCall (closePort a) (s .areas)
       → Made s (closePort a) n silent (world (s .controller) m)
   by-write : {a : ℕ} {ws : List ℕ} {m : Areas} {n : ℕ} → out m n ≡ hostCall (writePort a ws) (s .areas)

@@ -13,7 +13,7 @@ use Rattle.sequence.specs.Frame.{blocks, frameChecks}
 use Rattle.frames.specs.declared.Hearing.{Hearing}
 use Rattle.frames.specs.Size.{expectedOf}
 use Rattle.model.specs.declared.Answer.{Answer}
-use Rattle.model.specs.declared.Answer.the-variants.{Never, Good, Held, Refused}
+use Rattle.model.specs.declared.Answer.the-variants.{Never, Good, Held, Stale, Refused}
 use Rattle.model.specs.declared.Device.{Device}
 use Rattle.model.specs.declared.Heard.{Heard}
 use Rattle.model.specs.declared.Heard.the-variants.{Nothing, Unsound, Master, Reply, Stray}
@@ -48,6 +48,7 @@ fetched-short m a = go (asked m a)
     go Never = omega arith
     go Good = part
     go Held = part
+    go Stale = part
     go (Refused n) = omega arith
 
 -- ---- what is replied
@@ -112,7 +113,7 @@ answer-short : (c : Call) (s : World) → Short (answer c s)
 unfolding answer
 answer-short (hear a b) s = rw (hear-answer s a b) (heard-short _ (s .areas) (heardBy (s .controller) a b))
 answer-short (quiet n) s = tt
-answer-short (openPort a p code sink i) s = tt
+answer-short (openPort a p code sink i limit) s = tt
 answer-short (closePort a) s = tt
 answer-short (writePort a ws) s = tt
 answer-short (readPort a) s = tt

@@ -7,7 +7,7 @@ use lib.ListN.{length}
 use Rattle.sequence.specs.Frame.{frameChecks}
 use Rattle.interrupts.specs.declared.Group.{Group}
 use Rattle.model.specs.declared.Answer.{Answer}
-use Rattle.model.specs.declared.Answer.the-variants.{Never, Good, Held, Refused}
+use Rattle.model.specs.declared.Answer.the-variants.{Never, Good, Held, Stale, Refused}
 use Rattle.model.specs.declared.Controller.{Controller}
 use Rattle.model.specs.Layout.{Areas, areasFit}
 use Rattle.model.specs.Event.{world, padded, silent}
@@ -73,11 +73,12 @@ openThrough given c m = cond given (hostCall c m) (out m (awayNumber m))
 abbrev pub numberWith : ℕ → ℕ → Number
 numberWith n v = record { refusal = n; value = v }
 
--- 0 never, 1 good, 2 held
+-- 0 never, 1 good, 2 held, 3 stale
 abbrev pub answerNumber : Answer → Number
 answerNumber Never = numberWith 0 0
 answerNumber Good = numberWith 0 1
 answerNumber Held = numberWith 0 2
+answerNumber Stale = numberWith 0 3
 answerNumber (Refused n) = numberWith n 0
 
 unfoldable pub fetching : Areas → ℕ → Fetched

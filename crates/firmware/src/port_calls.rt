@@ -17,7 +17,8 @@ use host_ports::calls;
 use logic::both;
 use model::Answer;
 
-// Opens port p at address a, as a sink (1) or a source (0) of this F-code, with a data transfer interrupt or 0.
+// Opens port p at address a, as a sink (1) or a source (0) of this F-code, with a data transfer interrupt or 0, and a limit in milliseconds or
+// 0 where it is not supervised.
 #[no_mangle]
 pub extern "C" fn tolvendrum_open(
     index: &mut [u16],
@@ -29,10 +30,11 @@ pub extern "C" fn tolvendrum_open(
     code: u16,
     sink: u16,
     interrupt: u16,
+    limit: u16,
 ) -> u16
     ensures { λ r. ⌜
         out (lent (index .exit) (ports .exit) (page0 .entry) (page1 .entry)) r ≡
-        openThrough (isBit sink) (openPort a p code (isSet sink) interrupt)
+        openThrough (isBit sink) (openPort a p code (isSet sink) interrupt limit)
         (lent (index .entry) (ports .entry) (page0 .entry) (page1 .entry))
         ⌝ }
 {
@@ -48,6 +50,7 @@ pub extern "C" fn tolvendrum_open(
             code,
             is_set(sink),
             interrupt,
+            limit,
         );
     }
     away_number(index, ports, page0, page1)
@@ -112,6 +115,10 @@ fn answer_number(x: Answer) -> Number
             refusal: 0,
             value: 2,
         },
+        Answer::Stale => Number {
+            refusal: 0,
+            value: 3,
+        },
         Answer::Refused(n) => Number {
             refusal: n,
             value: 0,
@@ -130,7 +137,7 @@ fn ask(index: &[u16], ports: &[u16], page0: &[u16], page1: &[u16], a: u16) -> An
     Answer::Refused(AREA)
 }
 
-// Asks for the state of the port at address a: 0 never, 1 good, 2 held.
+// Asks for the state of the port at address a: 0 never, 1 good, 2 held, 3 stale.
 #[no_mangle]
 pub extern "C" fn tolvendrum_ask(
     index: &[u16],

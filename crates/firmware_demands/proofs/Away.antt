@@ -45,7 +45,7 @@ away-refused c m = go c
     go : (x : Call) → awayFrom x m ≡ 0 → ⊥
     go (hear a b) = lent-areas (areasFit m)
     go (quiet n) = lent-areas (areasFit m)
-    go (openPort a p code sink i) = lent-areas (areasFit m)
+    go (openPort a p code sink i limit) = lent-areas (areasFit m)
     go (closePort a) = lent-areas (areasFit m)
     go (writePort a ws) = lent-areas (areasFit m)
     go (readPort a) = lent-areas (areasFit m)

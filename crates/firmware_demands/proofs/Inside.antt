@@ -5,7 +5,7 @@ use mathlib.Core.Path.{_≡_, refl, sym, _∙_, ap, subst}
 use mathlib.Core.Bool.{Bool, true, false, cond, _&&_, and-eq-true-iff}
 use Rattle.frames.specs.declared.Hearing.{Hearing}
 use Rattle.model.specs.declared.Answer.{Answer}
-use Rattle.model.specs.declared.Answer.the-variants.{Never, Good, Held, Refused}
+use Rattle.model.specs.declared.Answer.the-variants.{Never, Good, Held, Stale, Refused}
 use Rattle.model.specs.declared.Controller.{Controller}
 use Rattle.model.specs.Layout.{Areas}
 use Rattle.model.specs.Event.{World, world, silent}
@@ -63,6 +63,7 @@ pub answer-refusal : (x : Answer) → refusalOf x ≡ answerNumber x .refusal
 answer-refusal Never = refl
 answer-refusal Good = refl
 answer-refusal Held = refl
+answer-refusal Stale = refl
 answer-refusal (Refused n) = refl
 
 read-made : (s : World) (a n : ℕ) → refusalOf (asked (s .areas) a) ≡ n → Made s (readPort a) n silent s

@@ -17,7 +17,7 @@ use Rattle.model.specs.Event.{World, world, silent}
 use Rattle.model.specs.Host.{Setting, settingOut, tell}
 use Rattle.model.specs.Calls.{Call, hear, quiet, refusal, tests, Silent, First}
 use Rattle.model.specs.Past.{Typed, firstWord}
-use Rattle.model.specs.Taken.{answersNow, OnlyStatus}
+use Rattle.model.specs.Taken.{answersNow, OnlyStatus, StatusAndAges}
 use Rattle.model.specs.Damage.{SoundMaster}
 use Rattle.host_controller.specs.declared.GroupCall.{GroupCall}
 use Rattle.host_controller.specs.Settings.{toldFor, toldWith}
@@ -137,7 +137,7 @@ module _ {given : Bool} {f g : FlatController} {m m' : Areas} {a b h : Hearing} 
       → OnlyStatus m m'
   others = inner.others made
 
--- Accepted quiet time changes no area but for status bits.
+-- Accepted quiet time changes no area but for status bits and ages.
 pub quiet-marks : {given : Bool} {f g : FlatController} {m m' : Areas} {n : ℕ} {h : Hearing} → Called given f m (quiet n) 0 h g m'
-    → OnlyStatus m m'
+    → StatusAndAges m m'
 quiet-marks call = inner.quiet-marks (accepted-made call refl)

@@ -10,7 +10,7 @@ use Rattle.model.specs.Ports.{codeOf, view}
 use Rattle.model.specs.Event.{World, world}
 use Rattle.model.specs.Calls.{Call, hear}
 use Rattle.model.specs.Past.{firstWord}
-use Rattle.model.specs.Taken.{OnlyStatus}
+use Rattle.model.specs.Taken.{StatusAndAges}
 use Rattle.model.specs.Damage.{Damage, SoundMaster}
 use Rattle.model.specs.Differ.{AllHosts, Follows, waitingAddress, doubtful, MayDiffer, Unseen}
 use Rattle.demands.specs.Made.{Ran}
@@ -26,8 +26,8 @@ use Rattle.firmware_demands.proofs.OfCalled.{accepted-made}
 
 module _ (before stretch : List Call) (d : Damage before stretch) {f g : FlatController} {m n : Areas} (short : Exported before f m)
     (long : Exported (stretch ++ before) g n) where
-  -- During a stretch of damage only status bits change in the areas.
-  pub only-status : OnlyStatus m n
+  -- During a stretch of damage only status bits and ages change in the areas.
+  pub only-status : StatusAndAges m n
   only-status = demand.only-status before stretch d (ran short) (ran long)
 
   -- No address shows anything else.

@@ -1,6 +1,6 @@
 -- DEMANDS 1, 2 AND 3, OF WHAT SHIPS: of every sequence of the exported calls from `tolvendrum_reset` and cleared areas on. Each is the demand
 -- of the crate `demands` on the inner calls that the sequence is (`ran` of Stands.antt). Assumes nothing.
-use Prim.Native.Nat.{ℕ, _%_}
+use Prim.Native.Nat.{ℕ, _%_, min}
 use mathlib.Core.Path.{_≡_, refl, _∙_, subst}
 use mathlib.Core.Bool.{Bool, true, false}
 use mathlib.Core.List.{List, [], _∷_}
@@ -10,13 +10,14 @@ use lib.ListN.{length}
 use Rattle.frames.specs.declared.Hearing.{Hearing}
 use Rattle.frames.specs.Hearing.{wordsOf}
 use Rattle.interrupts.specs.Names.{SFC}
-use Rattle.model.specs.Layout.{Areas, areasFit}
+use Rattle.model.specs.Layout.{Areas, areasFit, portAt}
 use Rattle.model.specs.Lines.{LineBits}
-use Rattle.model.specs.Ports.{codeOf, addressOf, hasPorts, Standing, standing, view}
+use Rattle.model.specs.Ports.{codeOf, addressOf, hasPorts, Standing, standing, view, oldest}
 use Rattle.model.specs.Event.{World, world, interruptOf, raiseAll, spoken}
 use Rattle.model.specs.Calls.{Call, hear, quiet, openPort, closePort, writePort, readPort, setting}
 use Rattle.model.specs.Past.{Typed, onTrusted, firstWord, lastSettings, answers, Opening, openingOf, answersSince, writesSince, lastOf}
 use Rattle.model.specs.Past.{sourceTold, linesPolled, statusTold, replyIn, viewWith, toldView, takenIf}
+use Rattle.model.specs.Age.{ageSince}
 use Rattle.model.specs.Damage.{SoundMaster}
 use Rattle.model.proofs.Demands.{shaped}
 use Rattle.demands.specs.Made.{Made}
@@ -44,7 +45,7 @@ module _ {past : List Call} {f : FlatController} {m : Areas} (calls : Exported p
         go : (x : Call) → awayFrom x m ≡ 2
         go (hear a b) = rw fits
         go (quiet k) = rw fits
-        go (openPort a p code sink i) = rw fits
+        go (openPort a p code sink i limit) = rw fits
         go (closePort a) = rw fits
         go (writePort a ws) = rw fits
         go (readPort a) = rw fits
@@ -119,3 +120,7 @@ module _ {past : List Call} {f : FlatController} {m : Areas} (calls : Exported p
         → let l = writesSince past a in
         view m a ≡ some (viewWith o (lastOf l) (length l % 65536))
     source-shows = demand.source-shows (ran calls) a o opened
+
+    -- The age of an open sink is the milliseconds that ended since its last taken frame, or since its opening, at most 65,535.
+    pub age-told : o .sink ≡ true → portAt m (o .port) .age ≡ min oldest (ageSince past a (o .word))
+    age-told = demand.age-told (ran calls) a o opened

@@ -14,13 +14,14 @@ use Rattle.frames.specs.Size.{sizes, expectedOf}
 use Rattle.frames.specs.Judge.{countsRight, judged, judgedMaster, judgedSlave}
 use Rattle.interrupts.specs.Group.{active}
 use Rattle.model.specs.declared.Answer.{Answer}
-use Rattle.model.specs.declared.Answer.the-variants.{Never, Good, Held, Refused}
+use Rattle.model.specs.declared.Answer.the-variants.{Never, Good, Held, Stale, Refused}
 use Rattle.model.specs.declared.Controller.{Controller}
 use Rattle.model.specs.Layout.{Areas, entry, portAt, flagsOf}
-use Rattle.model.specs.Ports.{isHeld, stateOf}
+use Rattle.model.specs.Ports.{isHeld, tooOld, stateBy, stateOf}
 use Rattle.model.specs.Event.{padded, sent}
 use Rattle.model.specs.Calls.{Call, asked, refusalOf, fetched}
 use Rattle.model.specs.Past.{after, Opening, openingOf, lastOf, fillings, shownWords, framesJudged, framesUnsound}
+use Rattle.model.specs.Age.{askedTold, IsStale}
 use Rattle.model.specs.Damage.{SoundMaster}
 use Rattle.model.proofs.Reading.{asked-number}
 use Rattle.model.proofs.Replies.{sent-sound}
@@ -57,19 +58,30 @@ value-zero : (x : Answer) → (answerNumber x .value ≡ 0) ↔ ((x ≡ Never) �
 value-zero Never = (λ e. inl refl, λ e. refl)
 value-zero Good = (λ e. absurd (omega arith), λ e. absurd (shows-neither Good refl e))
 value-zero Held = (λ e. absurd (omega arith), λ e. absurd (shows-neither Held refl e))
+value-zero Stale = (λ e. absurd (omega arith), λ e. absurd (shows-neither Stale refl e))
 value-zero (Refused n) = (λ e. inr (n, refl), λ e. refl)
+
+-- it is 3 exactly for stale
+value-stale : (x : Answer) → (answerNumber x .value ≡ 3) ↔ (x ≡ Stale)
+value-stale Never = (λ e. absurd (omega arith), λ e. let z : _≡_ {A = ℕ} 0 1 = cc in absurd (omega arith))
+value-stale Good = (λ e. absurd (omega arith), λ e. let z : _≡_ {A = ℕ} 0 1 = cc in absurd (omega arith))
+value-stale Held = (λ e. absurd (omega arith), λ e. let z : _≡_ {A = ℕ} 0 1 = cc in absurd (omega arith))
+value-stale Stale = (λ e. refl, λ e. refl)
+value-stale (Refused n) = (λ e. absurd (omega arith), λ e. let z : _≡_ {A = ℕ} 0 1 = cc in absurd (omega arith))
 
 -- where the number is 0 there is no refusal
 not-refused : (m : Areas) (a : ℕ) → refusalOf (asked m a) ≡ 0 → (n : ℕ) → asked m a ≡ Refused n → ⊥
 unfolding asked stateOf
 not-refused m a e n =
-    let flags = flagsOf (portAt m (entry m a) .flags) in
-    rw (sym (asked-number m a) ∙ e) (go (flags .ever) (isHeld (flags .faults)))
+    let w = portAt m (entry m a) in
+    let flags = flagsOf (w .flags) in
+    rw (sym (asked-number m a) ∙ e) (go (flags .ever) (isHeld (flags .faults)) (tooOld (w .limit) (w .age)))
   where
-    go : (ever held : Bool) → cond ever (cond held Held Good) Never ≡ Refused n → ⊥
-    go true true p = let z : _≡_ {A = ℕ} 0 1 = cc in omega arith
-    go true false p = let z : _≡_ {A = ℕ} 0 1 = cc in omega arith
-    go false held p = let z : _≡_ {A = ℕ} 0 1 = cc in omega arith
+    go : (ever held stale : Bool) → stateBy ever held stale ≡ Refused n → ⊥
+    go true true stale p = let z : _≡_ {A = ℕ} 0 1 = cc in omega arith
+    go true false true p = let z : _≡_ {A = ℕ} 0 1 = cc in omega arith
+    go true false false p = let z : _≡_ {A = ℕ} 0 1 = cc in omega arith
+    go false held stale p = let z : _≡_ {A = ℕ} 0 1 = cc in omega arith
 
 -- ---- after every sequence
 
@@ -122,6 +134,17 @@ module _ {past : List Call} {f : FlatController} {m : Areas} (calls : Exported p
         only : (asked m a ≡ Never) ⊎ ((n : ℕ) × (asked m a ≡ Refused n)) → asked m a ≡ Never
         only (inl p) = p
         only (inr (n, p)) = absurd (not-refused m a accepts n p)
+
+    -- What asking answers is what the past tells: 0 never, 1 good, 2 held, 3 stale.
+    pub ask-told : {r : Number} → Asks m a r → r ≡ answerNumber (askedTold past a o)
+    ask-told s = asks-promised s ∙ ap answerNumber (demand.ask-told (ran calls) a o opened (asked m a) refl)
+
+    -- Its state is 3, stale, exactly where it was filled, is not held, is supervised, and its age is at or above its limit.
+    pub ask-stale : {r : Number} → Asks m a r → (r .value ≡ 3) ↔ IsStale past a o
+    ask-stale s =
+        let stale = demand.ask-stale (ran calls) a o opened (asked m a) refl in
+        let three = value-stale (asked m a) in
+        rw (asks-promised s) (λ e. stale .0 (three .0 e), λ x. three .1 (stale .1 x))
 
     -- Fetching hands back the words that filled the port last, then zeros, and none where nothing filled it.
     pub fetch-shows : {r : Fetched} → Fetches m a r

@@ -47,8 +47,8 @@ checks-promised (checks κs words left e) = e
 -- ---- port_calls
 
 -- Opening leaves the areas and the number of the model's call; with a side that is none it is turned away.
-pub opens-promised : {m m' : Areas} {a p code side i r : ℕ} → Opens m a p code side i r m'
-    → out m' r ≡ openThrough (isBit side) (openPort a p code (isSet side) i) m
+pub opens-promised : {m m' : Areas} {a p code side i limit r : ℕ} → Opens m a p code side i limit r m'
+    → out m' r ≡ openThrough (isBit side) (openPort a p code (isSet side) i limit) m
 opens-promised (opens κs i p z o i' p' left e) = e
 
 -- Closing leaves those of the model's call.

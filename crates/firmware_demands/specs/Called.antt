@@ -37,8 +37,8 @@ pub data Called : Bool → FlatController → Areas → Call → ℕ → Hearing
   by-quiet : {f : FlatController} {m m' : Areas} {t : ℕ} (r : FlatAnswered) → Quiets m f t r m'
       → Called (ours f) f m (quiet t) (r .refusal) (hearingOf (r .reply)) (r .controller) m'
   -- beside whatever controller the host holds
-  by-open : {f : FlatController} {m m' : Areas} {a p code : ℕ} (side : ℕ) {interrupt r : ℕ} → Opens m a p code side interrupt r m'
-      → Called (isBit side) f m (openPort a p code (isSet side) interrupt) r silent f m'
+  by-open : {f : FlatController} {m m' : Areas} {a p code : ℕ} (side : ℕ) {interrupt limit r : ℕ} → Opens m a p code side interrupt limit r m'
+      → Called (isBit side) f m (openPort a p code (isSet side) interrupt limit) r silent f m'
   by-close : {f : FlatController} {m m' : Areas} {a r : ℕ} → Closes m a r m' → Called true f m (closePort a) r silent f m'
   by-write : {f : FlatController} {m m' : Areas} {a : ℕ} {ws : List ℕ} {r : ℕ} → Writes m a ws r m'
       → Called true f m (writePort a ws) r silent f m'
@@ -55,7 +55,7 @@ pub data Called : Bool → FlatController → Areas → Call → ℕ → Hearing
 abbrev pub awayFrom : Call → Areas → ℕ
 awayFrom (hear a b) m = awayNumber m
 awayFrom (quiet n) m = awayNumber m
-awayFrom (openPort a p code sink i) m = awayNumber m
+awayFrom (openPort a p code sink i limit) m = awayNumber m
 awayFrom (closePort a) m = awayNumber m
 awayFrom (writePort a ws) m = awayNumber m
 awayFrom (readPort a) m = awayNumber m

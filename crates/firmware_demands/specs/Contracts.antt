@@ -66,11 +66,11 @@ pub data Checks : List ℕ → FlatChecks → Type 0 where
 
 -- ---- port_calls; asking and fetching change nothing
 
--- port p was opened at address a, with this F-code, side and interrupt; the number r was answered
-pub data Opens : Areas → ℕ → ℕ → ℕ → ℕ → ℕ → ℕ → Areas → Type 0 where
-  opens : (κs : _) (index ports page0 page1 : Slice) {a p code side interrupt r : ℕ} (index' ports' : Slice) (left : _)
-      → open-reads.Learnt κs (index & ports & page0 & page1 & a & p & code & side & interrupt & tt) r (index' & ports' & left)
-      → Opens (lent index ports page0 page1) a p code side interrupt r (lent index' ports' page0 page1)
+-- port p was opened at address a, with this F-code, side, interrupt and limit; the number r was answered
+pub data Opens : Areas → ℕ → ℕ → ℕ → ℕ → ℕ → ℕ → ℕ → Areas → Type 0 where
+  opens : (κs : _) (index ports page0 page1 : Slice) {a p code side interrupt limit r : ℕ} (index' ports' : Slice) (left : _)
+      → open-reads.Learnt κs (index & ports & page0 & page1 & a & p & code & side & interrupt & limit & tt) r (index' & ports' & left)
+      → Opens (lent index ports page0 page1) a p code side interrupt limit r (lent index' ports' page0 page1)
 
 -- the port at address a was closed
 pub data Closes : Areas → ℕ → ℕ → Areas → Type 0 where

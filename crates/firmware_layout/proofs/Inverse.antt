@@ -5,7 +5,7 @@ use Prim.Native.Nat.{ℕ, zero, suc}
 use mathlib.Core.Path.{_≡_, refl}
 use mathlib.Core.Bool.{Bool, true, false, _&&_, _||_, and-eq-true-iff}
 use native.Mathlib.Omega.{arith}
-use lib.Dec.{eqb, leb}
+use lib.Dec.{eqb, leb, ltb}
 use borrow.Author.Tests.{eqb-true, leb-true}
 use Rattle.interrupts.specs.declared.Group.{Group}
 use Rattle.interrupts.specs.Names.{used0, used1}
@@ -16,6 +16,7 @@ use Rattle.model.specs.declared.Exchange.{Exchange}
 use Rattle.model.specs.declared.Exchange.the-variants.{Idle, Waiting, Done}
 use Rattle.model.specs.declared.Lines.{Lines}
 use Rattle.model.specs.declared.Controller.{Controller}
+use Rattle.model.specs.Quiet.{millisecond}
 use Rattle.firmware_layout.specs.declared.FlatLines.{FlatLines}
 use Rattle.firmware_layout.specs.declared.FlatGroup.{FlatGroup}
 use Rattle.firmware_layout.specs.declared.FlatDevice.{FlatDevice}
@@ -53,17 +54,19 @@ pub record Parts (f : FlatController) : Type 0 where
   pub group0 : groupOurs used0 (f .group0) ≡ true
   pub group1 : groupOurs used1 (f .group1) ≡ true
   pub device : deviceOurs (f .device) ≡ true
+  pub phase : ltb (f .phase) millisecond ≡ true
 
 -- numbers of ours pass the test of each part
 pub parts : (f : FlatController) → ours f ≡ true → Parts f
 unfolding ours
 parts f e =
-    let d = and-eq-true-iff _ _ .0 e in
+    let p = and-eq-true-iff _ _ .0 e in
+    let d = and-eq-true-iff _ _ .0 (p .0) in
     let g1 = and-eq-true-iff _ _ .0 (d .0) in
     let g0 = and-eq-true-iff _ _ .0 (g1 .0) in
     let l = and-eq-true-iff _ _ .0 (g0 .0) in
     let t = and-eq-true-iff _ _ .0 (l .0) in
-    record { exchange = t .0; times = t .1; lines = l .1; group0 = g0 .1; group1 = g1 .1; device = d .1 }
+    record { exchange = t .0; times = t .1; lines = l .1; group0 = g0 .1; group1 = g1 .1; device = d .1; phase = p .1 }
 
 -- ---- from the numbers and back
 

@@ -18,9 +18,10 @@ use Rattle.model.specs.declared.Controller.{Controller}
 use Rattle.model.specs.declared.Heard.{Heard}
 use Rattle.model.specs.declared.Heard.the-variants.{Nothing, Unsound, Master, Reply, Stray}
 use Rattle.model.specs.declared.Times.{Times}
-use Rattle.model.specs.Event.{World, raiseAll, when, heardBy, hearController}
+use Rattle.model.specs.Event.{World, world, raiseAll, when, heardBy, hearController}
 use Rattle.model.proofs.Tables.{raised0, raised1, timesAfter}
-use Rattle.model.specs.Quiet.{busTimeout, lineTimeout, timesLater, isSome, busSilent, due, tickController, tick, ticks}
+use Rattle.model.specs.Quiet.{busTimeout, lineTimeout, millisecond, timesLater, isSome, busSilent, due, pulseController, pulse, millisecondEnds}
+use Rattle.model.specs.Quiet.{grownIf, grown, tick, ticks}
 use Rattle.model.specs.Host.{Setting, address, status, replyTime, slm, ls, clearEC, reset, group0, group1, isReplyTime, settingOut}
 use Rattle.model.specs.Host.{freshController, tell}
 use Rattle.model.specs.Calls.{Call, hear, quiet, openPort, closePort, writePort, readPort, setting, refusal, step, outcome}
@@ -81,23 +82,41 @@ heard-right s a b r =
       group0 = raised-shaped (raised0 (s .areas) (c .exchange) (c .times) h) (c .group0) (r .group0);
       group1 = raised-shaped (raised1 (c .counts) h) (c .group1) (r .group1);
       device = r .device;
+      phase = r .phase;
     })
 
-tick-right : (s : World) → Right (s .controller) → Right (tick s .controller)
-unfolding tick tickController
-tick-right s r =
+pulse-right : (s : World) → Right (s .controller) → Right (pulse s .controller)
+unfolding pulse pulseController
+pulse-right s r =
     let c = s .controller in
     record {
       times = later-times (c .times) (r .times);
       group0 = raised-shaped (when (isSome (due s)) RTI ++ when (busSilent (c .times)) BTI) (c .group0) (r .group0);
       group1 = r .group1;
       device = r .device;
+      phase = r .phase;
     }
 
+-- the phase restarts with the millisecond
+grown-right : (s : World) → Right (s .controller) → Right (grown s .controller)
+unfolding grown
+grown-right s r = go (millisecondEnds s) refl
+  where
+    go : (b : Bool) → millisecondEnds s ≡ b → Right (grownIf b s .controller)
+    go true e = record { times = r .times; group0 = r .group0; group1 = r .group1; device = r .device; phase = omega arith }
+    go false e =
+        record {
+          times = r .times;
+          group0 = r .group0;
+          group1 = r .group1;
+          device = r .device;
+          phase = leb-false millisecond (s .controller .phase + 1) e;
+        }
+
 ticks-right : (n : ℕ) (s : World) → Right (s .controller) → Right (ticks n s .controller)
-unfolding ticks
+unfolding ticks tick
 ticks-right zero s r = r
-ticks-right (suc n) s r = ticks-right n (tick s) (tick-right s r)
+ticks-right (suc n) s r = ticks-right n (tick s) (grown-right (pulse s) (pulse-right s r))
 
 fresh-right : Right freshController
 unfolding freshController
@@ -107,36 +126,38 @@ fresh-right =
       group0 = shaped-fresh used0;
       group1 = shaped-fresh used1;
       device = record { address = omega arith; unset = λ e. refl };
+      phase = omega arith;
     }
 
 -- a controller by the parts that a setting may change
-parts : {c : Controller} → RightTimes (c .times) → Shaped used0 (c .group0) → Shaped used1 (c .group1) → RightDevice (c .device) → Right c
-parts t g h d = record { times = t; group0 = g; group1 = h; device = d }
+parts : {c : Controller} → c .phase < millisecond → RightTimes (c .times) → Shaped used0 (c .group0) → Shaped used1 (c .group1)
+    → RightDevice (c .device) → Right c
+parts p t g h d = record { times = t; group0 = g; group1 = h; device = d; phase = p }
 
 -- a setting that is in its range
 told-right : (t : Setting) (c : Controller) → settingOut t ≡ false → Right c → Right (tell t c)
 unfolding tell
 told-right (address a) c e r =
-    parts (r .times) (r .group0) (r .group1) (record { address = ltb-false 4095 a e; unset = r .device .unset })
+    parts (r .phase) (r .times) (r .group0) (r .group1) (record { address = ltb-false 4095 a e; unset = r .device .unset })
 told-right (status w) c e r =
-    parts (r .times) (r .group0) (r .group1) (record { address = r .device .address; unset = λ f. absurd (true≢false f) })
+    parts (r .phase) (r .times) (r .group0) (r .group1) (record { address = r .device .address; unset = λ f. absurd (true≢false f) })
 told-right (replyTime t) c e r =
     let x = r .times in
-    parts (record { since = x .since; line = x .line; chosen = not-false (isReplyTime t) e; adopted = x .adopted }) (r .group0) (r .group1)
+    parts (r .phase) (record { since = x .since; line = x .line; chosen = not-false (isReplyTime t) e; adopted = x .adopted }) (r .group0) (r .group1)
     (r .device)
-told-right (slm b) c e r = parts (r .times) (r .group0) (r .group1) (r .device)
-told-right (ls b) c e r = parts (r .times) (r .group0) (r .group1) (r .device)
-told-right clearEC c e r = parts (r .times) (r .group0) (r .group1) (r .device)
+told-right (slm b) c e r = parts (r .phase) (r .times) (r .group0) (r .group1) (r .device)
+told-right (ls b) c e r = parts (r .phase) (r .times) (r .group0) (r .group1) (r .device)
+told-right clearEC c e r = parts (r .phase) (r .times) (r .group0) (r .group1) (r .device)
 told-right reset c e r = fresh-right
-told-right (group0 g) c e r = parts (r .times) (shaped-after g (c .group0) (r .group0)) (r .group1) (r .device)
-told-right (group1 g) c e r = parts (r .times) (r .group0) (shaped-after g (c .group1) (r .group1)) (r .device)
+told-right (group0 g) c e r = parts (r .phase) (r .times) (shaped-after g (c .group0) (r .group0)) (r .group1) (r .device)
+told-right (group1 g) c e r = parts (r .phase) (r .times) (r .group0) (shaped-after g (c .group1) (r .group1)) (r .device)
 
 -- an accepted call
 step-right : (c : Call) (s : World) → refusal c s ≡ 0 → Right (s .controller) → Right (step c s .controller)
 unfolding step refusal
 step-right (hear a b) s e r = heard-right s a b r
 step-right (quiet n) s e r = ticks-right n s r
-step-right (openPort a p code sink i) s e r = r
+step-right (openPort a p code sink i limit) s e r = r
 step-right (closePort a) s e r = r
 step-right (writePort a ws) s e r = r
 step-right (readPort a) s e r = r

@@ -12,7 +12,7 @@ use Rattle.model.specs.declared.Device.{Device}
 use Rattle.model.specs.declared.Exchange.{Exchange}
 use Rattle.model.specs.declared.Exchange.the-variants.{Idle, Waiting, Done}
 use Rattle.model.specs.declared.Times.{Times}
-use Rattle.model.specs.Quiet.{busTimeout, lineTimeout}
+use Rattle.model.specs.Quiet.{busTimeout, lineTimeout, millisecond}
 use Rattle.model.specs.Host.{isReplyTime}
 use Rattle.firmware_layout.specs.Flags.{bitOf, isSet}
 use Rattle.firmware_layout.specs.Controller.{flatExchange, exchangeOurs, flatTimes, timesOurs, flatGroup}
@@ -33,12 +33,13 @@ pub record RightDevice (d : Device) : Type 0 where
   pub address : d .address ≤ 4095
   pub unset : d .set ≡ false → d .status ≡ 0
 
--- times, both groups and the device are right; of the other parts nothing is asked
+-- times, both groups, the device and the phase are right; of the other parts nothing is asked
 pub record Right (c : Controller) : Type 0 where
   pub times : RightTimes (c .times)
   pub group0 : Shaped used0 (c .group0)
   pub group1 : Shaped used1 (c .group1)
   pub device : RightDevice (c .device)
+  pub phase : c .phase < millisecond
 
 -- ---- tests joined
 
@@ -94,6 +95,7 @@ right c o =
       group0 = group-right used0 (c .group0) (o .first) (p .group0);
       group1 = group-right used1 (c .group1) (o .second) (p .group1);
       device = device-right (c .device) (p .device);
+      phase = ltb-true (c .phase) millisecond (p .phase);
     }
 
 -- ---- to the tests
@@ -138,5 +140,6 @@ ours-right c r =
             group-ours used0 (c .group0) (r .group0),
             group-ours used1 (c .group1) (r .group1),
             device-ours (c .device) (r .device),
+            lt-ltb (c .phase) millisecond (r .phase),
           );
     }

@@ -15,7 +15,7 @@ use Rattle.model.specs.declared.Counts.{Counts}
 use Rattle.model.specs.declared.Device.{Device}
 use Rattle.model.specs.declared.Controller.{Controller}
 use Rattle.model.specs.Lines.{lines}
-use Rattle.model.specs.Quiet.{busTimeout, lineTimeout, times}
+use Rattle.model.specs.Quiet.{busTimeout, lineTimeout, millisecond, times}
 use Rattle.model.specs.Host.{device, counts, controller, isReplyTime}
 use Rattle.firmware_layout.specs.declared.FlatExchange.{FlatExchange}
 use Rattle.firmware_layout.specs.declared.FlatTimes.{FlatTimes}
@@ -112,15 +112,16 @@ flat c =
       group0 = flatGroup (c .group0);
       group1 = flatGroup (c .group1);
       device = flatDevice (c .device);
+      phase = c .phase;
     }
 
 unfoldable pub controllerOf : FlatController → Controller
 controllerOf f =
     controller (exchangeOf (f .exchange)) (timesOf (f .times)) (linesOf (f .lines)) (countsOf (f .counts)) (groupOf used0 (f .group0))
-    (groupOf used1 (f .group1)) (deviceOf (f .device))
+    (groupOf used1 (f .group1)) (deviceOf (f .device)) (f .phase)
 
--- the numbers of a controller of ours
+-- the numbers of a controller of ours; its phase restarts with each millisecond
 unfoldable pub ours : FlatController → Bool
 ours f =
     exchangeOurs (f .exchange) && timesOurs (f .times) && linesOurs (f .lines) && groupOurs used0 (f .group0) && groupOurs used1 (f .group1)
-    && deviceOurs (f .device)
+    && deviceOurs (f .device) && ltb (f .phase) millisecond

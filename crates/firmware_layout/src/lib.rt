@@ -59,7 +59,7 @@ pub struct FlatDevice {
     pub status: u16, // the status word, 0 unless set
 }
 
-// The controller. Each part begins at a multiple of four words, so that a machine that copies the struct moves whole parts.
+// The controller. No struct in it lies across a multiple of four words, so that a machine that copies the controller moves each whole.
 #[repr(C)]
 pub struct FlatController {
     pub exchange: FlatExchange,
@@ -69,6 +69,7 @@ pub struct FlatController {
     pub group0: FlatGroup,
     pub group1: FlatGroup,
     pub device: FlatDevice,
+    pub phase: u16, // quiet bit times of the millisecond that runs, below 1500
 }
 
 // What one line heard in an event. In silence and in noise the rest says nothing, but is tested.

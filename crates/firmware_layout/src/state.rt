@@ -3,6 +3,7 @@ ghost use mathlib.Core.Path.{_≡_};
 ghost use Rattle.firmware_layout.specs.Controller.{flat, controllerOf, ours};
 use crate::FlatController;
 use crate::parts;
+use constants::MILLISECOND;
 use interrupts::names::USED_0;
 use interrupts::names::USED_1;
 use logic::both;
@@ -26,6 +27,7 @@ pub fn flat(c: Controller) -> FlatController
         group0: parts::flat_group(g0),
         group1: parts::flat_group(g1),
         device: parts::flat_device(d),
+        phase: c.phase,
     }
 }
 
@@ -47,6 +49,7 @@ pub fn controller_of(f: FlatController) -> Controller
         group0: parts::group_of(USED_0, g0),
         group1: parts::group_of(USED_1, g1),
         device: parts::device_of(d),
+        phase: f.phase,
     }
 }
 
@@ -67,5 +70,5 @@ pub fn is_ours(f: FlatController) -> bool
         both(exchange, parts::group_ours(USED_0, g0)),
         parts::group_ours(USED_1, g1),
     );
-    both(groups, parts::device_ours(d))
+    both(both(groups, parts::device_ours(d)), f.phase < MILLISECOND)
 }

@@ -135,5 +135,6 @@ pub fn reset() -> Controller
             set: false,
             status: 0,
         },
+        phase: 0,
     }
 }

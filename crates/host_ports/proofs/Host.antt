@@ -7,7 +7,7 @@ use mathlib.Core.List.{List, []}
 use borrow.Author.Tests.{eqb-true}
 use lib.Dec.{eqb}
 use Rattle.model.specs.declared.Answer.{Answer}
-use Rattle.model.specs.declared.Answer.the-variants.{Never, Good, Held, Refused}
+use Rattle.model.specs.declared.Answer.the-variants.{Never, Good, Held, Stale, Refused}
 use Rattle.model.specs.Layout.{Areas, entry}
 use Rattle.model.specs.Ports.{validWords}
 use Rattle.model.specs.Calls.{Call, openPort, closePort, writePort, readPort, outOfRange, refusal, step, outcomeOf, outcome, freshOver}
@@ -18,16 +18,17 @@ use Rattle.areas.specs.Lent.{shown}
 use Rattle.host_ports.specs.Host.{out, portAreas, hostCall, openRefusal, reached, writeRefusal}
 
 -- opening is refused as `openRefusal` writes it out
-pub open-number : (m : Areas) (a p code : ℕ) (sink : Bool) (i : ℕ) → portRefusal (openPort a p code sink i) m ≡ openRefusal m a p code i
+pub open-number : (m : Areas) (a p code : ℕ) (sink : Bool) (i limit : ℕ)
+    → portRefusal (openPort a p code sink i limit) m ≡ openRefusal m a p code i
 unfolding portRefusal refusal openRefusal
-open-number m a p code sink i = refl
+open-number m a p code sink i limit = refl
 
 -- an opening that is accepted has its arguments in range
 pub open-accepted : (m : Areas) (a p code i : ℕ) {n : ℕ} → n ≡ openRefusal m a p code i → eqb n 0 ≡ true → InRange a p code i
 unfolding portRefusal
 open-accepted m a p code i {n} e z =
-    let none = open-number m a p code true i ∙ sym e ∙ eqb-true n 0 z in
-    open-range a p code i (accepted (openPort a p code true i) (freshOver m) none outOfRange)
+    let none = open-number m a p code true i 0 ∙ sym e ∙ eqb-true n 0 z in
+    open-range a p code i (accepted (openPort a p code true i 0) (freshOver m) none outOfRange)
 
 -- the test of the port words is asked only where there is an entry
 excused : (none ill : Bool) (n : ℕ) → cond none 3 (cond (not none && ill) 6 n) ≡ cond none 3 (cond ill 6 n)
@@ -68,6 +69,7 @@ parts : (x : Answer) (ws : List ℕ) → cond (shown x) ws [] ≡ partFor x ws
 parts Never ws = refl
 parts Good ws = refl
 parts Held ws = refl
+parts Stale ws = refl
 parts (Refused n) ws = refl
 
 -- the code's test for showing the port's words gives what is fetched

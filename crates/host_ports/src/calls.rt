@@ -19,10 +19,10 @@ use model::Answer;
 use model::Flags;
 use model::Words;
 
-// The words of a port just opened: status, EVER, VP and fills zero.
-fn open_words(a: u16, code: u16, sink: bool, interrupt: u16) -> Words
+// The words of a port just opened: status, EVER, VP and fills zero, with its limit, and age 0.
+fn open_words(a: u16, code: u16, sink: bool, interrupt: u16, limit: u16) -> Words
     requires { ⌜ (a ≤ 4095) × (code ≤ 4) ⌝ }
-    ensures { λ r. ⌜ r ≡ openWords a code sink interrupt ⌝ }
+    ensures { λ r. ⌜ r ≡ openWords a code sink interrupt limit ⌝ }
 {
     let faults = store::no_faults();
     let f = Flags {
@@ -37,10 +37,15 @@ fn open_words(a: u16, code: u16, sink: bool, interrupt: u16) -> Words
         flags: layout::word_of(f),
         interrupt,
         fills: 0,
+        limit,
+        age: 0,
+        sixth: 0,
+        seventh: 0,
     }
 }
 
-// Opens port p at address a, as a sink or a source of this F-code, with a data transfer interrupt or 0.
+// Opens port p at address a, as a sink or a source of this F-code, with a data transfer interrupt or 0, and a limit in milliseconds, 0 where
+// it is not supervised.
 pub fn open(
     index: &mut [u16],
     ports: &mut [u16],
@@ -51,16 +56,17 @@ pub fn open(
     code: u16,
     sink: bool,
     interrupt: u16,
+    limit: u16,
 ) -> u16
     ensures { λ r. ⌜
         out (lent (index .exit) (ports .exit) (page0 .entry) (page1 .entry)) r ≡
-        hostCall (openPort a p code sink interrupt) (lent (index .entry) (ports .entry) (page0 .entry) (page1 .entry))
+        hostCall (openPort a p code sink interrupt limit) (lent (index .entry) (ports .entry) (page0 .entry) (page1 .entry))
         ⌝ }
 {
     let no = refusal::of_open(index, ports, page0, page1, a, p, code, interrupt);
     let ok = no == 0;
     if ok {
-        let w = open_words(a, code, sink, interrupt);
+        let w = open_words(a, code, sink, interrupt, limit);
         layout::put(index, a as usize, p);
         layout::put_port(ports, p, w);
     }
@@ -83,6 +89,10 @@ pub fn close(index: &mut [u16], ports: &mut [u16], page0: &[u16], page1: &[u16],
             flags: 0,
             interrupt: 0,
             fills: 0,
+            limit: 0,
+            age: 0,
+            sixth: 0,
+            seventh: 0,
         };
         layout::put(index, a as usize, 0);
         layout::put_port(ports, p, none);
@@ -122,7 +132,7 @@ pub fn ask(index: &[u16], ports: &[u16], page0: &[u16], page1: &[u16], a: u16) -
 {
     let no = refusal::reach(index, ports, page0, page1, a, 0);
     let w = layout::get_port(ports, layout::get(index, a as usize));
-    let state = port::state_of(layout::flags_of(w.flags));
+    let state = port::state_of(w);
     pick_answer(no == 0, state, Answer::Refused(no))
 }
 

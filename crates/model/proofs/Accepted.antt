@@ -72,10 +72,10 @@ open-range a p code i e =
     }
 
 -- an accepted opening finds address and port free, so what it does to the areas is valid
-pub valid-open : (a p code : ℕ) (sink : Bool) (i : ℕ) (s : World) → refusal (openPort a p code sink i) s ≡ 0
-    → Valid (s .areas) (opened a p code sink i)
-valid-open a p code sink i s e =
-    let t = accepted (openPort a p code sink i) s e in
+pub valid-open : (a p code : ℕ) (sink : Bool) (i limit : ℕ) (s : World) → refusal (openPort a p code sink i limit) s ≡ 0
+    → Valid (s .areas) (opened a p code sink i limit)
+valid-open a p code sink i limit s e =
+    let t = accepted (openPort a p code sink i limit) s e in
     let r = open-range a p code i (t outOfRange) in
     let free = neither _ _ (t isTaken) in
     opening (r .address) (r .some-port) (r .port) (r .code) (r .interrupt) (eqb-true _ 0 (not-false _ (free .0)))

@@ -89,7 +89,7 @@ module _ (s : World) (shape : Shape (s .areas)) where
   whole : (c : Call) → Whole (tests c s)
   whole (hear a b) = bus-whole (not (inRange a) || not (inRange b)) (wordOfHeard (heardBy (s .controller) a b))
   whole (quiet n) = bus-whole (ltb 65535 n) (dueWithin n s)
-  whole (openPort a p code sink i) = (refl, (refl, (no-above _ shape (some a), (refl, tt))))
+  whole (openPort a p code sink i limit) = (refl, (refl, (no-above _ shape (some a), (refl, tt))))
   whole (closePort a) = port-whole a [] tt
   whole (writePort a ws) = port-whole a (sideTest (s .areas) a ∷ sizeTest (s .areas) a ws ∷ []) (refl, (refl, tt))
   whole (readPort a) = port-whole a [] tt
@@ -188,7 +188,7 @@ module _ (s u : World) (k : Alike (s .areas) (u .areas)) where
   refuses-same (hear a b) =
       bus-same (not (inRange a) || not (inRange b)) (wordOfHeard (heardBy (s .controller) a b)) (wordOfHeard (heardBy (u .controller) a b))
   refuses-same (quiet n) = bus-same (ltb 65535 n) (dueWithin n s) (dueWithin n u)
-  refuses-same (openPort a p code sink i) =
+  refuses-same (openPort a p code sink i limit) =
       rw (k .shape .fits, shape .fits, no-above M (k .shape) (some a), no-above N shape (some a), entry-same a) (go (openOut a p code i) refl)
     where
       go : (r : Bool) → openOut a p code i ≡ r

@@ -15,25 +15,26 @@ use Rattle.frames.specs.Hearing.{wordsOf}
 use Rattle.frames.specs.Judge.{judgedMaster, judgedSlave, isSound}
 use Rattle.model.specs.declared.Exchange.{Exchange}
 use Rattle.model.specs.declared.Exchange.the-variants.{Idle, Waiting, Done}
-use Rattle.model.specs.Layout.{Areas, areasFit, portAt}
-use Rattle.model.specs.Ports.{codeOf, addressOf, Standing, standing, markedWords, Effect, untouched, mark, filled, apply}
+use Rattle.model.specs.Layout.{areasFit}
+use Rattle.model.specs.Ports.{codeOf, addressOf, Standing, standing, Effect, filled, apply}
 use Rattle.model.specs.declared.Device.{Device}
 use Rattle.model.specs.Lines.{trusted, observed, beforeRule3}
 use Rattle.model.specs.Event.{World, heard, heardBy, asMaster, asHeard, waitsFor, deviceWith, answerTo, sent}
-use Rattle.model.specs.Quiet.{effectLater, due, tick, tickEffect, ticks}
+use Rattle.model.specs.Quiet.{effectLater, due, pulse, pulseEffect, pulses}
 use Rattle.model.specs.Calls.{hear, quiet, badArea, refusal, effect, step, answer}
 use Rattle.model.specs.Past.{Typed, isSlave, firstWord}
-use Rattle.model.specs.Taken.{answersNow, Gentle, still, marks, OnlyStatus, Took, takes, spares}
+use Rattle.model.specs.Taken.{answersNow, still, OnlyStatus, StatusAndAges, Took, takes, spares}
 use Rattle.model.specs.Damage.{SoundMaster}
 use Rattle.model.proofs.Shape.{Valid}
-use Rattle.model.proofs.PortWords.{length-with}
 use Rattle.model.proofs.Tables.{answerOf, linesFound, effectOf, hear-answer, hear-effect}
 use Rattle.model.proofs.Refused.{accepted}
 use Rattle.model.proofs.Standings.{standing-at}
 use Rattle.model.proofs.Taken.{waiting-took, valid-heard}
 use Rattle.model.proofs.Invariant.{one-of}
 use Rattle.model.proofs.Holds.{later-valid}
-use Rattle.model.proofs.Damage.{heard-master, slave-unanswered, gentle-late, only-same, only-trans, gentle-only}
+use Rattle.model.proofs.Gentle.{gentle-late, forget-ages, ages-only, only-same, only-trans, gentle-only}
+use Rattle.model.proofs.Damage.{heard-master, slave-unanswered}
+use Rattle.model.proofs.Grown.{pulse-fits, pulses-fits, ticks-grown, grown-ages}
 use Rattle.model.proofs.Replies.{answer-sound}
 
 module _ (s : World) (a b : Hearing) where
@@ -157,21 +158,18 @@ module _ (s : World) (a b : Hearing) where
 
 -- ---- quiet time
 
-gentle-fits : (e : Effect) (m : Areas) → Gentle e → areasFit m ≡ true → areasFit (apply e m) ≡ true
-unfolding apply areasFit
-gentle-fits untouched m still f = f
-gentle-fits (mark p x) m marks f = rw (length-with (m .ports) p (markedWords (portAt m p) x)) f
+pulses-only : (n : ℕ) (s : World) → areasFit (s .areas) ≡ true → StatusAndAges (s .areas) (pulses n s .areas)
+unfolding pulses pulse pulseEffect
+pulses-only zero s f = only-same (s .areas)
+pulses-only (suc n) s f =
+    let m = s .areas in
+    only-trans _ _ _ (forget-ages (gentle-only (effectLater m (due s)) m f (later-valid m (due s)) (gentle-late m (due s))))
+    (pulses-only n (pulse s) (pulse-fits s f))
 
-ticks-only : (n : ℕ) (s : World) → areasFit (s .areas) ≡ true → OnlyStatus (s .areas) (ticks n s .areas)
-unfolding ticks tick tickEffect
-ticks-only zero s f = only-same (s .areas)
-ticks-only (suc n) s f =
-    let e = effectLater (s .areas) (due s) in
-    let g = gentle-late (s .areas) (due s) in
-    only-trans _ _ _ (gentle-only e (s .areas) f (later-valid (s .areas) (due s)) g)
-    (ticks-only n (tick s) (gentle-fits e (s .areas) g f))
-
--- Accepted quiet time changes no area but for status bits.
-pub quiet-anywhere : (s : World) (n : ℕ) → refusal (quiet n) s ≡ 0 → OnlyStatus (s .areas) (step (quiet n) s .areas)
+-- Accepted quiet time changes no area but for status bits and ages.
+pub quiet-anywhere : (s : World) (n : ℕ) → refusal (quiet n) s ≡ 0 → StatusAndAges (s .areas) (step (quiet n) s .areas)
 unfolding step
-quiet-anywhere s n ok = ticks-only n s (not-false _ (accepted (quiet n) s ok badArea))
+quiet-anywhere s n ok =
+    let f : areasFit (s .areas) ≡ true = not-false _ (accepted (quiet n) s ok badArea) in
+    let g = pulses-fits n s f in
+    rw (ticks-grown n s f) (only-trans _ _ _ (pulses-only n s f) (ages-only (grown-ages n (pulses n s) g)))

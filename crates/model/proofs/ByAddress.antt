@@ -173,12 +173,12 @@ module _ (past : List Call) (h : ToldBy past (after past)) where
       go : (o : Option ℕ) → portAtAddress past (cond (not (isSome o) && isWord (waitingAddress past) a) none (some a)) ≡ settle (over o (waitingPort past)) (portNumber (openingOf past a))
       go none = if-waiting true a
       go (some w) = refl
-  step-number (openPort b p code sink i) r (some a) = go (valid-open b p code sink i (after past) r)
+  step-number (openPort b p code sink i limit) r (some a) = go (valid-open b p code sink i limit (after past) r)
     where
-      go : Valid M (opened b p code sink i)
-          → portAtAddress (openPort b p code sink i ∷ past) (remains (finishedBy past (happening (openPort b p code sink i))) (some a))
+      go : Valid M (opened b p code sink i limit)
+          → portAtAddress (openPort b p code sink i limit ∷ past) (remains (finishedBy past (happening (openPort b p code sink i limit))) (some a))
           ≡ settle (some p) (portNumber (openingOf past a))
-      go (opening ha pos hp hc hi free unused) = touched b a _ refl (openPort b p code sink i ∷ past) refl ∙ by-free b p a free unused
+      go (opening ha pos hp hc hi free unused) = touched b a _ refl (openPort b p code sink i limit ∷ past) refl ∙ by-free b p a free unused
   step-number (closePort b) r (some a) = touched b a closes refl (closePort b ∷ past) refl ∙ by-number b a (found-close b (after past) r)
   step-number (writePort b ws) r (some a) =
       touched b a (writes ws) refl (writePort b ws ∷ past) refl ∙ by-number b a (found-write b ws (after past) r)

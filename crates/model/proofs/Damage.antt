@@ -1,13 +1,11 @@
 -- Demand 3, damage: a stretch of damage that an accepted sound master frame ends leaves no trace in any port's words or fill count, nor
--- in any data reply, as long as both lines hear alike afterwards; and during the stretch only status bits change. Assumes nothing.
+-- in any data reply, as long as both lines hear alike afterwards; and during the stretch only status bits and ages change. Assumes nothing.
 use Prim.Native.Nat.{ℕ, zero, suc}
 use mathlib.Core.Path.{_≡_, refl, sym, _∙_, ap}
-use mathlib.Core.Logic.{_⊎_, inl, inr}
-use mathlib.Core.Bool.{true, not, false≢true}
+use mathlib.Core.Bool.{true}
 use mathlib.Core.List.{List, [], _∷_, _++_}
-use mathlib.Core.Option.{Option, none, some}
+use mathlib.Core.Option.{none}
 use native.Mathlib.Omega.{arith}
-use native.Mathlib.Decide.{ℕ-discrete}
 use lib.ListN.{length}
 use borrow.Author.Tests.{leb-true}
 use Rattle.frames.specs.declared.Kind.{Kind}
@@ -15,126 +13,42 @@ use Rattle.frames.specs.declared.Kind.the-variants.{Silence, Noise, Master as M
 use Rattle.frames.specs.declared.Hearing.{Hearing}
 use Rattle.frames.specs.declared.Judgement.{Judgement}
 use Rattle.frames.specs.declared.Judgement.the-variants.{Sound, Unsound as Bad}
-use Rattle.frames.specs.Judge.{judgedMaster, judgedSlave, isSound}
+use Rattle.frames.specs.Judge.{judgedMaster}
 use Rattle.model.specs.declared.Exchange.{Exchange}
 use Rattle.model.specs.declared.Exchange.the-variants.{Idle, Waiting, Done}
-use Rattle.model.specs.declared.Times.{Times}
 use Rattle.model.specs.declared.Device.{Device}
-use Rattle.model.specs.declared.Words.{Words}
-use Rattle.model.specs.declared.Faults.{Faults}
 use Rattle.model.specs.declared.Heard.the-variants.{Master}
-use Rattle.model.specs.Layout.{Areas, areasFit, portAt, wordsAt, withWords, flagsOf}
-use Rattle.model.specs.Ports.{codeOf, Standing, standing, viewed, view, Effect, untouched, mark, faulty, markedWords, apply}
-use Rattle.model.specs.Event.{World, asHeard, asMaster, asSlave, heard, heardBy, sinkFor, taken}
-use Rattle.model.specs.Quiet.{times, due, missed, effectLater, ticks, tick, tickEffect, tickController}
-use Rattle.model.specs.Calls.{Call, hear, outOfRange, wordOfHeard}
-use Rattle.model.specs.Calls.{refusal, effect, step, answer}
+use Rattle.model.specs.Layout.{Areas}
+use Rattle.model.specs.Ports.{codeOf, viewed, view, apply}
+use Rattle.model.specs.Event.{World, asHeard, asMaster, asSlave, heard, heardBy}
+use Rattle.model.specs.Quiet.{times, effectLater, due, pulseEffect, pulseController, pulse, pulses, ticks}
+use Rattle.model.specs.Calls.{Call, hear, outOfRange, wordOfHeard, refusal, effect, step, answer}
 use Rattle.model.specs.Past.{after, Typed, Accepted, onTrusted, firstWord, awaited}
-use Rattle.model.specs.Taken.{Gentle, still, marks, OnlyStatus}
+use Rattle.model.specs.Taken.{StatusAndAges}
 use Rattle.model.specs.Damage.{harmless, Damaged, Damage, SoundMaster}
 use Rattle.model.specs.Differ.{Unseen}
-use Rattle.model.proofs.Shape.{Shape, Valid, marking, standingAfter}
-use Rattle.model.proofs.Tables.{effectOf, answerOf, exchangeAfter, hear-controller, hear-effect, hear-answer}
+use Rattle.model.proofs.Shape.{Shape}
+use Rattle.model.proofs.Tables.{answerOf, exchangeAfter, hear-controller, hear-effect, hear-answer}
 use Rattle.model.proofs.StatusReply.{data-unmoved}
-use Rattle.model.proofs.PortWords.{words-same, words-other}
-use Rattle.model.proofs.Bits.{flags-of-word}
-use Rattle.model.proofs.ShapeKept.{at-here, shape-apply, standing-apply}
-use Rattle.model.proofs.Formed.{lengths}
 use Rattle.model.proofs.Refused.{accepted, accepts}
-use Rattle.model.proofs.Waits.{waitNow, Live, waits-now}
 use Rattle.model.proofs.Taken.{valid-heard}
 use Rattle.model.proofs.Holds.{later-valid}
+use Rattle.model.proofs.Ageing.{standing-ages, shape-ages}
+use Rattle.model.proofs.Grown.{grownBy, ticks-grown, grown-ages}
 use Rattle.model.proofs.Invariant.{one-of, ToldBy, chosen-heard}
 use Rattle.model.proofs.Told.{past-told}
 use Rattle.model.proofs.Alike.{bus-in}
 use Rattle.model.proofs.HostCalls.{Sort, event, pause, host, sort, host-undamaged}
 use Rattle.model.proofs.Same.{Alike, same-answer, same-exchange, Same, either-line}
+use Rattle.model.proofs.Gentle.{gentle-late, gentle-heard, forget-ages, ages-only, only-same, only-trans, gentle-only, gentle-alike}
 
--- ---- effects that change status bits alone
-
--- a reply time that is reached changes status bits alone
-pub gentle-late : (m : Areas) (o : Option ℕ) → Gentle (effectLater m o)
-gentle-late m none = still
-gentle-late m (some w) = go (sinkFor m w)
-  where
-    go : (o : Option Standing) → Gentle (missed o)
-    go none = still
-    go (some v) = marks
-
--- a harmless hearing changes status bits alone
-pub gentle-heard : (m : Areas) (t : Times) (h : Hearing) (k : Kind) (x : Exchange) → Live x t → harmless k (waitNow x t 0) h ≡ true
-    → Gentle (effectOf m (asHeard k x h) h)
-gentle-heard m t h Silence x l e = still
-gentle-heard m t h Noise x l e = still
-gentle-heard m t h MasterFrame x l e = go (judgedMaster h)
-  where
-    go : (j : Judgement) → Gentle (effectOf m (asMaster j h) h)
-    go Sound = still
-    go (Bad wrong) = still
-gentle-heard m t h SlaveFrame Idle l e = still
-gentle-heard m t h SlaveFrame Done l e = still
-gentle-heard m t h SlaveFrame (Waiting w) l e =
-    go (sinkFor m w) (judgedSlave (codeOf w) h) (ap (λ (o : Option ℕ). harmless SlaveFrame o h) (sym (waits-now w t l)) ∙ e)
-  where
-    go : (o : Option Standing) (j : Judgement) → not (isSound j) ≡ true → Gentle (taken o j h)
-    go none j e = still
-    go (some v) Sound e = absurd (false≢true e)
-    go (some v) (Bad wrong) e = marks
-
--- the last mark counts
-marked-twice : (w : Words) (x y : Faults) → markedWords (markedWords w x) y ≡ markedWords w y
-unfolding markedWords
-marked-twice w x y = rw (flags-of-word (faulty (flagsOf (w .flags)) x))
-
--- ---- what a stretch of damage leaves: every address shows the same, only status bits differ, the host's choices stay
+-- ---- what a stretch of damage leaves: every address shows the same, only status bits and ages differ, the host's choices stay
 
 pub record Unharmed (u s : World) : Type 0 where
   pub areas : Alike (s .areas) (u .areas)
-  pub only : OnlyStatus (u .areas) (s .areas)
+  pub only : StatusAndAges (u .areas) (s .areas)
   pub chosen : s .controller .times .chosen ≡ u .controller .times .chosen
   pub device : s .controller .device ≡ u .controller .device
-
--- areas left as they were are the same but for status bits
-pub only-same : (m : Areas) → OnlyStatus m m
-only-same m = record { index = refl; page0 = refl; page1 = refl; ports = λ p. inl refl }
-
--- two changes of status bits alone, one after the other, are one
-pub only-trans : (l m n : Areas) → OnlyStatus l m → OnlyStatus m n → OnlyStatus l n
-only-trans l m n f g =
-    record {
-      index = g .index ∙ f .index;
-      page0 = g .page0 ∙ f .page0;
-      page1 = g .page1 ∙ f .page1;
-      ports = λ p. join (f .ports p) (g .ports p);
-    }
-  where
-    join : {a b c : Words} → (b ≡ a) ⊎ ((x : Faults) × (b ≡ markedWords a x)) → (c ≡ b) ⊎ ((x : Faults) × (c ≡ markedWords b x))
-        → (c ≡ a) ⊎ ((x : Faults) × (c ≡ markedWords a x))
-    join (inl p) (inl q) = inl (q ∙ p)
-    join (inl p) (inr q) = inr (q .0, q .1 ∙ ap (λ (w : Words). markedWords w (q .0)) p)
-    join (inr p) (inl q) = inr (p .0, q ∙ p .1)
-    join {a = a} (inr p) (inr q) = inr (q .0, q .1 ∙ ap (λ (w : Words). markedWords w (q .0)) (p .1) ∙ marked-twice a (p .0) (q .0))
-
--- a valid effect of this kind leaves areas that are the same but for status bits
-pub gentle-only : (e : Effect) (m : Areas) → areasFit m ≡ true → Valid m e → Gentle e → OnlyStatus m (apply e m)
-unfolding apply
-gentle-only untouched m s v still = only-same m
-gentle-only (mark p x) m s (marking at) marks = record { index = refl; page0 = refl; page1 = refl; ports = λ q. by q (ℕ-discrete q p) }
-  where
-    by : (q : ℕ) → Dec (q ≡ p)
-        → (wordsAt (withWords (m .ports) p (markedWords (portAt m p) x)) q ≡ portAt m q)
-        ⊎ ((y : Faults) × (wordsAt (withWords (m .ports) p (markedWords (portAt m p) x)) q ≡ markedWords (portAt m q) y))
-    by q (yes e) =
-        inr (x, rw e (words-same (m .ports) p (markedWords (portAt m p) x) (omega (arith, at-here at .small, lengths m s .ports))))
-    by q (no n) = inl (words-other (m .ports) p q (markedWords (portAt m p) x) n)
-
-gentle-alike : (e : Effect) (m : Areas) → Shape m → Valid m e → Gentle e → Alike (apply e m) m
-gentle-alike e m s v g =
-    record { shape = shape-apply e m s v; shape′ = s; stands = λ a. standing-apply e m a s v ∙ unseen-effect e g a (standing m a) }
-  where
-    unseen-effect : (e : Effect) → Gentle e → (a : ℕ) (o : Option Standing) → standingAfter e a o ≡ o
-    unseen-effect untouched still a o = refl
-    unseen-effect (mark p x) marks a o = refl
 
 -- two parts of a stretch that each leave a world unharmed do so together
 pub kept-trans : (u s r : World) → Unharmed u s → Unharmed s r → Unharmed u r
@@ -146,22 +60,41 @@ kept-trans u s r f g =
       device = g .device ∙ f .device;
     }
 
--- a quiet bit time leaves a world unharmed
-pub kept-tick : (s : World) → Shape (s .areas) → Unharmed s (tick s)
-unfolding tick tickController tickEffect
-kept-tick s h =
+-- the rules of a quiet bit time leave a world unharmed
+pub kept-pulse : (s : World) → Shape (s .areas) → Unharmed s (pulse s)
+unfolding pulse pulseController pulseEffect
+kept-pulse s h =
     let m = s .areas in
     let e = effectLater m (due s) in
     let v = later-valid m (due s) in
     let g = gentle-late m (due s) in
-    record { areas = gentle-alike e m h v g; only = gentle-only e m (h .fits) v g; chosen = refl; device = refl }
+    record { areas = gentle-alike e m h v g; only = forget-ages (gentle-only e m (h .fits) v g); chosen = refl; device = refl }
+
+kept-pulses : (n : ℕ) (s : World) → Shape (s .areas) → Unharmed s (pulses n s)
+unfolding pulses
+kept-pulses zero s h =
+    record { areas = record { shape = h; shape′ = h; stands = λ a. refl }; only = only-same (s .areas); chosen = refl; device = refl }
+kept-pulses (suc n) s h =
+    let k = kept-pulse s h in
+    kept-trans s (pulse s) (pulses n (pulse s)) k (kept-pulses n (pulse s) (k .areas .shape))
+
+-- so do their ends
+pub kept-grown : (n : ℕ) (s : World) → Shape (s .areas) → Unharmed s (grownBy n s)
+unfolding grownBy
+kept-grown n s h =
+    let b = grown-ages n s (h .fits) in
+    record {
+      areas = record { shape = shape-ages b h; shape′ = h; stands = standing-ages b };
+      only = ages-only b;
+      chosen = refl;
+      device = refl;
+    }
 
 -- n quiet bit times leave a world unharmed
 kept-ticks : (n : ℕ) (s : World) → Shape (s .areas) → Unharmed s (ticks n s)
-unfolding ticks
-kept-ticks zero s h =
-    record { areas = record { shape = h; shape′ = h; stands = λ a. refl }; only = only-same (s .areas); chosen = refl; device = refl }
-kept-ticks (suc n) s h = let k = kept-tick s h in kept-trans s (tick s) (ticks n (tick s)) k (kept-ticks n (tick s) (k .areas .shape))
+kept-ticks n s h =
+    let k = kept-pulses n s h in
+    rw (ticks-grown n s (h .fits)) (kept-trans s (pulses n s) (grownBy n (pulses n s)) k (kept-grown n (pulses n s) (k .areas .shape)))
 
 -- a bus event that is damage leaves the world unharmed, if the invariant holds before it
 pub kept-hear : (past : List Call) (a b : Hearing) → Typed (hear a b) → ToldBy past (after past) → Damaged past (hear a b)
@@ -179,7 +112,7 @@ kept-hear past a b ty h d =
     rw (hear-controller s a b, hear-effect s a b)
     (record {
       areas = gentle-alike _ (s .areas) (h .holds .shape) v g;
-      only = gentle-only _ (s .areas) (h .holds .shape .fits) v g;
+      only = forget-ages (gentle-only _ (s .areas) (h .holds .shape .fits) v g);
       chosen = chosen-heard (c .times) k (k .kind) (c .exchange);
       device = refl;
     })
@@ -191,7 +124,7 @@ kept-call past c (event {a} {b}) ty h d = kept-hear past a b ty h d
 kept-call past c (pause {n}) ty h d = kept-ticks n (after past) (h .holds .shape)
 kept-call past c (host x) ty h d = absurd (host-undamaged past c x d)
 
--- During a stretch of damage only status bits change in the areas, and no address shows anything else.
+-- During a stretch of damage only status bits and ages change in the areas, and no address shows anything else.
 pub kept-stretch : (before stretch : List Call) → Accepted (stretch ++ before) → Damage before stretch
     → Unharmed (after before) (after (stretch ++ before))
 unfolding after
@@ -267,9 +200,9 @@ same-reply s u k y poll =
     rw (hear-answer s y y, hear-answer u y y, either-line (s .controller .lines) y, either-line (u .controller .lines) y)
     (answer-same _ _ _ _ k (s .controller .exchange) (u .controller .exchange) y poll (y .kind))
 
--- During a stretch of damage only status bits change in the areas.
+-- During a stretch of damage only status bits and ages change in the areas.
 pub stretch-marks : (before stretch : List Call) → Accepted (stretch ++ before) → Damage before stretch
-    → OnlyStatus (after before .areas) (after (stretch ++ before) .areas)
+    → StatusAndAges (after before .areas) (after (stretch ++ before) .areas)
 stretch-marks before stretch acc d = kept-stretch before stretch acc d .only
 
 -- And after it every address shows what it showed before.
@@ -278,7 +211,7 @@ pub stretch-unseen : (before stretch : List Call) → Accepted (stretch ++ befor
 unfolding view
 stretch-unseen before stretch acc d a = ap viewed (kept-stretch before stretch acc d .areas .stands a)
 
--- so what is the same in all but lines, counts and interrupts is not seen
+-- so what is the same in what every address shows is not seen
 pub unseen-same : (s u : World) → Same s u → Unseen s u
 unfolding view
 unseen-same s u k =

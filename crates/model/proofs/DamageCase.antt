@@ -19,7 +19,7 @@ use Rattle.model.specs.Layout.{areasFit, wordsAt, withWords, portAt, bit
 use Rattle.model.specs.Ports.{wellFormed, seek, standingOf, standing, openWords, markedWords, apply}
 use Rattle.model.specs.Lines.{rule1, rule2, rule3, rule4, rule5}
 use Rattle.model.specs.Event.{heard, portFor, answerTo, exchangeFor, heardBy, event, hearController, hearEffect}
-use Rattle.model.specs.Quiet.{tickEffect, tickController, tick, ticks, dueWithin}
+use Rattle.model.specs.Quiet.{pulseEffect, pulseController, pulse, grown, tick, ticks, dueWithin}
 use Rattle.model.specs.Host.{freshController}
 use Rattle.model.specs.Calls.{Call, hear, quiet, openPort, refusal, effect, step, clearedAreas, start}
 use Rattle.model.specs.Past.{after, Accepted, openingOf, writesSince, replyTold, awaited, lastSettings}
@@ -47,7 +47,7 @@ abbrev wrong : Call
 wrong = hear (frame Slave 2 0) (frame Slave 2 0)
 
 abbrev before : List Call
-before = asks ∷ openPort 1 1 0 true 0 ∷ []
+before = asks ∷ openPort 1 1 0 true 0 0 ∷ []
 
 -- the master frame again, and then the reply time
 abbrev again : List Call
@@ -75,7 +75,7 @@ pub record Case : Type 0 where
 
 -- The case holds: both runs are computed.
 pub case : Case
-unfolding waitingAddress finishes doubtful awaited after step event hearController heardBy heard judgedMaster judgedSlave judged countsRight wrongOf wrongAt rightAt checkAt checkOf rest pushes push onesOf ones blocks wordsOf expectedOf sizes replyTold openingOf writesSince effect hearEffect start freshController clearedAreas areasFit wordsAt withWords bitAt flagsOf wordOf zeroBits wellFormed seek standingOf standing openWords markedWords apply rule1 rule2 rule3 rule4 rule5 portFor answerTo exchangeFor tickEffect tickController tick ticks refusal dueWithin lastSettings
+unfolding waitingAddress finishes doubtful awaited after step event hearController heardBy heard judgedMaster judgedSlave judged countsRight wrongOf wrongAt rightAt checkAt checkOf rest pushes push onesOf ones blocks wordsOf expectedOf sizes replyTold openingOf writesSince effect hearEffect start freshController clearedAreas areasFit wordsAt withWords bitAt flagsOf wordOf zeroBits wellFormed seek standingOf standing openWords markedWords apply rule1 rule2 rule3 rule4 rule5 portFor answerTo exchangeFor pulseEffect pulseController pulse grown tick ticks refusal dueWithin lastSettings
 case =
     record {
       run = (tt, refl, ((refl, refl), refl, ((refl, refl), refl, ((refl, refl), refl, (tt, refl, tt)))));

@@ -11,7 +11,7 @@ use lib.ListN.{length}
 use borrow.Author.Tests.{eqb-true, ltb-false, not-false}
 use Rattle.frames.specs.Size.{sizes, expectedOf}
 use Rattle.model.specs.declared.Answer.{Answer}
-use Rattle.model.specs.declared.Answer.the-variants.{Never, Good, Held, Refused}
+use Rattle.model.specs.declared.Answer.the-variants.{Never, Good, Held, Stale, Refused}
 use Rattle.model.specs.Layout.{Areas, areasFit, entry, portAt, flagsOf}
 use Rattle.model.specs.Ports.{codeOf, sizeOf, wellFormed, validWords, stateOf}
 use Rattle.model.specs.Calls.{readPort, badArea, badEntry, noPort, badWords, freshOver, portRefusal, asked, partFor, fetched}
@@ -55,7 +55,7 @@ module _ (m : Areas) (a : ℕ) where
   refusal-of x e n = go (eqb (portRefusal (readPort a) m) 0) refl e
     where
       go : (b : Bool) → eqb (portRefusal (readPort a) m) 0 ≡ b
-          → cond b (stateOf (flagsOf (portAt m (entry m a) .flags))) (Refused (portRefusal (readPort a) m)) ≡ x
+          → cond b (stateOf (portAt m (entry m a))) (Refused (portRefusal (readPort a) m)) ≡ x
           → portRefusal (readPort a) m ≡ 0
       go true eb ex = eqb-true _ _ eb
       go false eb ex = absurd (n (portRefusal (readPort a) m) (sym ex))
@@ -70,6 +70,7 @@ module _ (m : Areas) (a : ℕ) where
       go Never ex e = inl ex
       go Good ex e = absurd (some-words (refusal-of Good ex (λ n q. let z : _≡_ {A = ℕ} 0 1 = cc in omega arith)) e)
       go Held ex e = absurd (some-words (refusal-of Held ex (λ n q. let z : _≡_ {A = ℕ} 0 1 = cc in omega arith)) e)
+      go Stale ex e = absurd (some-words (refusal-of Stale ex (λ n q. let z : _≡_ {A = ℕ} 0 1 = cc in omega arith)) e)
       go (Refused n) ex e = inr (n, ex)
 
       back : (asked m a ≡ Never) ⊎ ((n : ℕ) × (asked m a ≡ Refused n)) → partFor (asked m a) (validWords m (entry m a)) ≡ []

@@ -1,19 +1,22 @@
 -- Areas and exchange, against what is to be shown and waited for: both go through quiet time as the past has it. Assumes nothing.
 use Prim.Native.Nat.{ℕ, zero, suc, _+_, _≤_}
 use mathlib.Core.Path.{_≡_, refl, _∙_, ap}
+use mathlib.Core.Bool.{true}
 use mathlib.Core.Option.{Option, none, some}
 use native.Mathlib.Nat.{zero-add}
 use native.Mathlib.Omega.{arith}
 use Rattle.model.specs.declared.Exchange.{Exchange}
 use Rattle.model.specs.declared.Times.{Times}
 use Rattle.model.specs.declared.Controller.{Controller}
-use Rattle.model.specs.Layout.{Areas}
+use Rattle.model.specs.Layout.{Areas, areasFit}
 use Rattle.model.specs.Ports.{Standing, standing}
 use Rattle.model.specs.Event.{World, sinkFor}
-use Rattle.model.specs.Quiet.{times, missed, effectLater, due, tickEffect, tickController, tick, ticks}
+use Rattle.model.specs.Quiet.{times, missed, effectLater, due, pulseEffect, pulseController, pulse, pulses, ticks}
 use Rattle.model.proofs.Shape.{Shape, Valid, nothing, marking, standingAfter}
 use Rattle.model.proofs.ShapeKept.{shape-apply, standing-apply}
 use Rattle.model.proofs.Accepted.{sink-at}
+use Rattle.model.proofs.Ageing.{standing-ages, shape-ages}
+use Rattle.model.proofs.Grown.{phaseAfter, grownBy, ticks-grown, grown-ages}
 use Rattle.model.proofs.Waits.{waitNow, Live, waits-later, live-later}
 
 -- ---- areas and exchange, against what is to be shown and waited for
@@ -51,12 +54,13 @@ unseen m (some w) a v = go (sinkFor m w)
     go (some u) = refl
 
 -- a world whose areas, exchange and times hold so
-abbrev HoldsAt : (ℕ → Option ℕ) → (ℕ → Option Standing) → World → Type 0
+abbrev pub HoldsAt : (ℕ → Option ℕ) → (ℕ → Option Standing) → World → Type 0
 HoldsAt W S s = Holds W S (s .controller .exchange) (s .controller .times) (s .areas)
 
-tick-holds : (W : ℕ → Option ℕ) (S : ℕ → Option Standing) (s : World) → HoldsAt W S s → HoldsAt (λ q. W (1 + q)) S (tick s)
-unfolding tick tickController tickEffect
-tick-holds W S s h =
+-- the rules of a bit time are seen at no address, and the wait is a bit time further
+pub pulse-holds : (W : ℕ → Option ℕ) (S : ℕ → Option Standing) (s : World) → HoldsAt W S s → HoldsAt (λ q. W (1 + q)) S (pulse s)
+unfolding pulse pulseController pulseEffect
+pulse-holds W S s h =
     let x = s .controller .exchange in
     let t = s .controller .times in
     let e = effectLater (s .areas) (due s) in
@@ -69,23 +73,58 @@ tick-holds W S s h =
       short = h .short;
     }
 
--- what n bit times leave of the controller: all but exchange, times, lines and interrupts
+-- what n bit times leave of the controller: all but exchange, times, lines, interrupts and the phase
 pub record Lasting (c e : Controller) : Type 0 where
   pub chosen : e .times .chosen ≡ c .times .chosen
   pub counts : e .counts ≡ c .counts
   pub device : e .device ≡ c .device
 
+pulses-lasting : (n : ℕ) (s : World) → Lasting (s .controller) (pulses n s .controller)
+unfolding pulses pulse pulseController
+pulses-lasting zero s = record { chosen = refl; counts = refl; device = refl }
+pulses-lasting (suc n) s = let h = pulses-lasting n (pulse s) in record { chosen = h .chosen; counts = h .counts; device = h .device }
+
+-- they leave the phase
+pub pulses-phase : (n : ℕ) (s : World) → pulses n s .controller .phase ≡ s .controller .phase
+unfolding pulses pulse pulseController
+pulses-phase zero s = refl
+pulses-phase (suc n) s = pulses-phase n (pulse s)
+
+-- the rules of n bit times are seen at no address, and the wait is n bit times further
+pub pulses-hold : (n : ℕ) (W : ℕ → Option ℕ) (S : ℕ → Option Standing) (s : World) → HoldsAt W S s → HoldsAt (λ q. W (n + q)) S (pulses n s)
+unfolding pulses
+pulses-hold zero W S s h =
+    record { shape = h .shape; stands = h .stands; waits = λ q. rw zero-add (h .waits q); live = h .live; short = h .short }
+pulses-hold (suc n) W S s h =
+    let r = pulses-hold n (λ q. W (1 + q)) S (pulse s) (pulse-holds W S s h) in
+    record { shape = r .shape; stands = r .stands; waits = λ q. r .waits q ∙ ap W (omega arith); live = r .live; short = r .short }
+
+-- the end of n bit times is seen at no address
+grown-holds : (n : ℕ) (W : ℕ → Option ℕ) (S : ℕ → Option Standing) (s : World) → HoldsAt W S s → HoldsAt W S (grownBy n s)
+unfolding grownBy
+grown-holds n W S s h =
+    let b = grown-ages n s (h .shape .fits) in
+    record {
+      shape = shape-ages b (h .shape);
+      stands = λ a. standing-ages b a ∙ h .stands a;
+      waits = h .waits;
+      live = h .live;
+      short = h .short;
+    }
+
 -- n quiet bit times leave the chosen reply time, the counts and the device
-pub ticks-lasting : (n : ℕ) (s : World) → Lasting (s .controller) (ticks n s .controller)
-unfolding ticks tick tickController
-ticks-lasting zero s = record { chosen = refl; counts = refl; device = refl }
-ticks-lasting (suc n) s = let h = ticks-lasting n (tick s) in record { chosen = h .chosen; counts = h .counts; device = h .device }
+pub ticks-lasting : (n : ℕ) (s : World) → areasFit (s .areas) ≡ true → Lasting (s .controller) (ticks n s .controller)
+unfolding grownBy
+ticks-lasting n s fits =
+    let h = pulses-lasting n s in
+    rw (ticks-grown n s fits) (record { chosen = h .chosen; counts = h .counts; device = h .device })
+
+-- and the phase is n bit times further
+pub ticks-phase : (n : ℕ) (s : World) → areasFit (s .areas) ≡ true → ticks n s .controller .phase ≡ phaseAfter (s .controller .phase) n
+unfolding grownBy
+ticks-phase n s fits = rw (ticks-grown n s fits) (ap (λ (p : ℕ). phaseAfter p n) (pulses-phase n s))
 
 -- after n quiet bit times every address shows the same, and the wait is n bit times further
 pub ticks-hold : (n : ℕ) (W : ℕ → Option ℕ) (S : ℕ → Option Standing) (s : World) → HoldsAt W S s → HoldsAt (λ q. W (n + q)) S (ticks n s)
-unfolding ticks
-ticks-hold zero W S s h =
-    record { shape = h .shape; stands = h .stands; waits = λ q. rw zero-add (h .waits q); live = h .live; short = h .short }
-ticks-hold (suc n) W S s h =
-    let r = ticks-hold n (λ q. W (1 + q)) S (tick s) (tick-holds W S s h) in
-    record { shape = r .shape; stands = r .stands; waits = λ q. r .waits q ∙ ap W (omega arith); live = r .live; short = r .short }
+ticks-hold n W S s h =
+    rw (ticks-grown n s (h .shape .fits)) (grown-holds n (λ q. W (n + q)) S (pulses n s) (pulses-hold n W S s h))

@@ -25,7 +25,7 @@ pub data Sort : Call → Type 0 where
 pub sort : (c : Call) → Sort c
 sort (hear a b) = event
 sort (quiet n) = pause
-sort (openPort a p code sink i) = host tt
+sort (openPort a p code sink i limit) = host tt
 sort (closePort a) = host tt
 sort (writePort a ws) = host tt
 sort (readPort a) = host tt
@@ -43,7 +43,7 @@ pub host-step : (c : Call) → Hosts c → (s : World) → step c s ≡ world (h
 unfolding step effect apply
 host-step (hear a b) h s = absurd h
 host-step (quiet n) h s = absurd h
-host-step (openPort a p code sink i) h s = refl
+host-step (openPort a p code sink i limit) h s = refl
 host-step (closePort a) h s = refl
 host-step (writePort a ws) h s = refl
 host-step (readPort a) h s = refl
@@ -54,7 +54,7 @@ pub host-valid : (c : Call) → Hosts c → (s : World) → refusal c s ≡ 0 �
 unfolding effect
 host-valid (hear a b) h s r = absurd h
 host-valid (quiet n) h s r = absurd h
-host-valid (openPort a p code sink i) h s r = valid-open a p code sink i s r
+host-valid (openPort a p code sink i limit) h s r = valid-open a p code sink i limit s r
 host-valid (closePort a) h s r = valid-close a s r
 host-valid (writePort a ws) h s r = valid-write a ws s r
 host-valid (readPort a) h s r = nothing

@@ -46,7 +46,7 @@ pub quiet-told : (past : List Call) (n : ℕ) → ToldBy past (after past) → T
 unfolding step awaited framesJudged framesUnsound openingOf answersSince writesSince countSince lastSettings
 quiet-told past n h =
     let r = ticks-hold n (awaited past) (λ a. toldStanding past a (openingOf past a)) (after past) (h .holds) in
-    let k = ticks-lasting n (after past) in
+    let k = ticks-lasting n (after past) (h .holds .shape .fits) in
     record {
       holds =
           record {
@@ -140,17 +140,17 @@ module _ (past : List Call) (c : Call) (f : ℕ → Change) (h : happening c ≡
       }
 
 -- the invariant holds after an accepted opening
-pub open-told : (past : List Call) (b p code : ℕ) (sink : Bool) (i : ℕ) → refusal (openPort b p code sink i) (after past) ≡ 0
+pub open-told : (past : List Call) (b p code : ℕ) (sink : Bool) (i limit : ℕ) → refusal (openPort b p code sink i limit) (after past) ≡ 0
     → ToldBy past (after past)
-    → ToldBy (openPort b p code sink i ∷ past) (step (openPort b p code sink i) (after past))
+    → ToldBy (openPort b p code sink i limit ∷ past) (step (openPort b p code sink i limit) (after past))
 unfolding step effect
-open-told past b p code sink i r =
-    area-told past (openPort b p code sink i) _ refl (opened b p code sink i) (valid-open b p code sink i (after past) r)
+open-told past b p code sink i limit r =
+    area-told past (openPort b p code sink i limit) _ refl (opened b p code sink i limit) (valid-open b p code sink i limit (after past) r)
     (λ a v e. go (eqb b a) v)
   where
     go : (k : Bool) (v : Option Standing)
-        → ToSource (cond k (opens (opening b p code sink i)) keeps) v
-        × (cond k (some (justOpened b p code sink i)) v ≡ standingBy (cond k (opens (opening b p code sink i)) keeps) v)
+        → ToSource (cond k (opens (opening b p code sink i limit)) keeps) v
+        × (cond k (some (justOpened b p code sink i limit)) v ≡ standingBy (cond k (opens (opening b p code sink i limit)) keeps) v)
     go true v = (tt, refl)
     go false v = (tt, refl)
 

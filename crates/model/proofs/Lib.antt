@@ -5,6 +5,7 @@ pub mod Pages
 pub mod Shape
 pub mod Formed
 pub mod Standings
+pub mod Ageing
 pub mod Change
 pub mod ShapeKept
 pub mod Refused
@@ -14,12 +15,14 @@ pub mod Tables
 pub mod StatusReply
 pub mod Accepted
 pub mod Taken
+pub mod Grown
 pub mod Holds
 pub mod Invariant
 pub mod Hosted
 pub mod Told
 pub mod HostCalls
 pub mod Same
+pub mod Gentle
 pub mod Alike
 pub mod Damage
 pub mod Covers
@@ -37,3 +40,7 @@ pub mod Anywhere
 pub mod Empty
 pub mod Demands
 pub mod Marks
+pub mod Renewed
+pub mod StatusKept
+pub mod AgesKept
+pub mod Ages

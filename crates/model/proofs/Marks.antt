@@ -22,13 +22,14 @@ use Rattle.model.specs.Ports.{addressOf, Standing, turned, filledWords, 
 use Rattle.model.specs.Ports.{fill, mark, opened, filled, apply}
 use Rattle.model.specs.Lines.{trusted, observed}
 use Rattle.model.specs.Event.{World, heardBy, event, hearEffect, sinkFor, taken, brings}
-use Rattle.model.specs.Quiet.{expired, due, exchangeLater, effectLater, tick, tickEffect, tickController, ticks, dueWithin}
+use Rattle.model.specs.Quiet.{expired, due, exchangeLater, effectLater, pulse, pulseEffect, pulseController, pulses, dueWithin}
 use Rattle.model.specs.Calls.{hear, quiet, openPort, writePort, effect, step}
 use Rattle.model.proofs.Bits.{blockBits, marks-of-word}
 use Rattle.model.proofs.Formed.{lengths, openFlags}
 use Rattle.model.proofs.PortWords.{words-same}
 use Rattle.model.proofs.Standings.{standing-at}
 use Rattle.model.proofs.Accepted.{sink-open}
+use Rattle.model.proofs.Grown.{grownBy, pulses-fits, ticks-grown, grown-ages}
 
 -- CRC of an unsound answer is set exactly if a block is marked, and exactly if counts are right and a check byte is wrong.
 pub crc-marks : (n : ℕ) (h : Hearing) (wrong : Wrong) → judged n h ≡ Bad wrong
@@ -62,9 +63,9 @@ module _ (m : Areas) (fits : areasFit m ≡ true) (p : ℕ) (small : p ≤ 255) 
   unfolding apply markedWords
   mark-sets x = rw (stored (markedWords (portAt m p) x)) (marks-of-word (faulty (flagsOf (portAt m p .flags)) x))
 
-  open-clears : (a code : ℕ) (sink : Bool) (i : ℕ) → marksAt (apply (opened a p code sink i) m) p ≡ 0
+  open-clears : (a code : ℕ) (sink : Bool) (i limit : ℕ) → marksAt (apply (opened a p code sink i limit) m) p ≡ 0
   unfolding apply openWords
-  open-clears a code sink i = rw (stored (openWords a code sink i)) (marks-of-word (openFlags sink))
+  open-clears a code sink i limit = rw (stored (openWords a code sink i limit)) (marks-of-word (openFlags sink))
 
 -- ---- after each end of an exchange
 
@@ -83,42 +84,46 @@ module _ (m : Areas) (fits : areasFit m ≡ true) (w : ℕ) (v : Standing) (foun
 
 -- ---- after quiet time
 
--- a quiet bit time does what the reply time that is reached does, and ends that wait
-tick-areas : (s : World) (o : Option ℕ) → due s ≡ o → tick s .areas ≡ apply (effectLater (s .areas) o) (s .areas)
-unfolding tick tickEffect
-tick-areas s o e = ap (λ x. apply (effectLater (s .areas) x) (s .areas)) e
+-- the rules of a quiet bit time do what the reply time that is reached does, and end that wait
+pulse-areas : (s : World) (o : Option ℕ) → due s ≡ o → pulse s .areas ≡ apply (effectLater (s .areas) o) (s .areas)
+unfolding pulse pulseEffect
+pulse-areas s o e = ap (λ x. apply (effectLater (s .areas) x) (s .areas)) e
 
-tick-exchange : (s : World) (o : Option ℕ) → due s ≡ o → tick s .controller .exchange ≡ exchangeLater (s .controller .exchange) o
-unfolding tick tickController
-tick-exchange s o e = ap (exchangeLater (s .controller .exchange)) e
+pulse-exchange : (s : World) (o : Option ℕ) → due s ≡ o → pulse s .controller .exchange ≡ exchangeLater (s .controller .exchange) o
+unfolding pulse pulseController
+pulse-exchange s o e = ap (exchangeLater (s .controller .exchange)) e
 
--- while nothing is waited for, quiet time leaves the areas
-idle-quiet : (n : ℕ) (s : World) → s .controller .exchange ≡ Idle → ticks n s .areas ≡ s .areas
-unfolding ticks apply
+-- while nothing is waited for, they leave the areas
+idle-quiet : (n : ℕ) (s : World) → s .controller .exchange ≡ Idle → pulses n s .areas ≡ s .areas
+unfolding pulses apply
 idle-quiet zero s e = refl
 idle-quiet (suc n) s e =
     let nothing-due : due s ≡ none = ap (λ x. expired x (s .controller .times)) e in
-    idle-quiet n (tick s) (tick-exchange s none nothing-due ∙ e) ∙ tick-areas s none nothing-due
+    idle-quiet n (pulse s) (pulse-exchange s none nothing-due ∙ e) ∙ pulse-areas s none nothing-due
 
 -- a reply time reached within n quiet bit times leaves no mark
 late-shown : (n : ℕ) (s : World) (w : ℕ) (v : Standing) → areasFit (s .areas) ≡ true → dueWithin n s ≡ some w → sinkFor (s .areas) w ≡ some v
-    → marksAt (ticks n s .areas) (v .port) ≡ 0
-unfolding ticks dueWithin apply
+    → marksAt (pulses n s .areas) (v .port) ≡ 0
+unfolding pulses dueWithin apply
 late-shown zero s w v fits d found = absurd (Option·none-ne-some w d)
-late-shown (suc n) s w v fits d found = go (due s) refl (late-shown n (tick s) w v)
+late-shown (suc n) s w v fits d found = go (due s) refl (late-shown n (pulse s) w v)
   where
     go : (o : Option ℕ) → due s ≡ o
-        → (areasFit (tick s .areas) ≡ true → dueWithin n (tick s) ≡ some w → sinkFor (tick s .areas) w ≡ some v
-        → marksAt (ticks n (tick s) .areas) (v .port) ≡ 0)
-        → marksAt (ticks n (tick s) .areas) (v .port) ≡ 0
+        → (areasFit (pulse s .areas) ≡ true → dueWithin n (pulse s) ≡ some w → sinkFor (pulse s .areas) w ≡ some v
+        → marksAt (pulses n (pulse s) .areas) (v .port) ≡ 0)
+        → marksAt (pulses n (pulse s) .areas) (v .port) ≡ 0
     go (some u) e later =
         let same : u ≡ w = Option·some-injective u w (rw e at d) in
-        let missed = tick-areas s (some u) e ∙ ap (λ x. apply (effectLater (s .areas) (some x)) (s .areas)) same in
-        ap (λ m. marksAt m (v .port)) (idle-quiet n (tick s) (tick-exchange s (some u) e) ∙ missed)
+        let missed = pulse-areas s (some u) e ∙ ap (λ x. apply (effectLater (s .areas) (some x)) (s .areas)) same in
+        ap (λ m. marksAt m (v .port)) (idle-quiet n (pulse s) (pulse-exchange s (some u) e) ∙ missed)
         ∙ missed-shown (s .areas) fits w v found
     go none e later =
-        let kept = tick-areas s none e in
+        let kept = pulse-areas s none e in
         later (ap areasFit kept ∙ fits) (rw e at d) (ap (λ m. sinkFor m w) kept ∙ found)
+
+-- ageing leaves word 1
+grown-shown : (n : ℕ) (s : World) (p : ℕ) → areasFit (s .areas) ≡ true → marksAt (grownBy n s .areas) p ≡ marksAt (s .areas) p
+grown-shown n s p fits = ap (λ w. blockBits (w .flags)) (grown-ages n s fits .ports p)
 
 -- ---- after each call
 
@@ -133,7 +138,7 @@ pub record MarksShown (s : World) : Type 0 where
   -- the host writes to the port: 0
   pub written : (a : ℕ) (ws : List ℕ) → entry (s .areas) a ≤ 255 → marksAt (step (writePort a ws) s .areas) (entry (s .areas) a) ≡ 0
   -- the host opens it: 0
-  pub fresh : (a p code : ℕ) (sink : Bool) (i : ℕ) → p ≤ 255 → marksAt (step (openPort a p code sink i) s .areas) p ≡ 0
+  pub fresh : (a p code : ℕ) (sink : Bool) (i limit : ℕ) → p ≤ 255 → marksAt (step (openPort a p code sink i limit) s .areas) p ≡ 0
 
 -- Bits 9 to 12 of an open sink are the marks after an unsound answer, and 0 after a fill, a timeout and an opening; in any memory.
 pub marks-shown : (s : World) → areasFit (s .areas) ≡ true → MarksShown s
@@ -146,7 +151,10 @@ marks-shown s fits =
           let t = trusted (s .controller .lines) a b in
           let o = observed (s .controller .lines) a b in
           ap (λ x. marksAt (apply (brings (s .controller) m t o x .effect) m) (v .port)) heard ∙ taken-shown m fits w v found j t;
-      late = λ n w v d found. late-shown n s w v fits d found;
+      late =
+          λ n w v d found.
+          ap (λ u. marksAt (u .areas) (v .port)) (ticks-grown n s fits) ∙ grown-shown n (pulses n s) (v .port) (pulses-fits n s fits)
+          ∙ late-shown n s w v fits d found;
       written = λ a ws small. fill-clears m fits (entry m a) small ws;
-      fresh = λ a p code sink i small. open-clears m fits p small a code sink i;
+      fresh = λ a p code sink i limit small. open-clears m fits p small a code sink i limit;
     }

@@ -1,17 +1,19 @@
 -- Demand 3, damage: what may differ after a stretch. With any host calls between the stretch and the sound master frame that ends it, and
--- any calls heard alike afterwards, the run without the stretch is accepted too, and the two worlds differ in no more than document 01
--- allows. Assumes nothing.
+-- any calls heard alike afterwards, the run without the stretch is accepted too, and the two worlds differ in no more than documents 01
+-- and 02 allow. Assumes nothing.
 use Prim.Native.Nat.{ℕ, zero, suc, _≤_}
 use mathlib.Core.Path.{_≡_, refl, _∙_, ap, subst}
+use mathlib.Core.Bool.{true}
 use mathlib.Core.List.{List, [], _∷_, _++_}
 use mathlib.Core.Option.{Option}
 use lib.ListN.{length}
 use Rattle.frames.specs.declared.Hearing.{Hearing}
 use Rattle.model.specs.declared.Exchange.{Exchange}
 use Rattle.model.specs.declared.Controller.{Controller}
+use Rattle.model.specs.Layout.{areasFit}
 use Rattle.model.specs.Ports.{untouched, apply}
 use Rattle.model.specs.Event.{World, asHeard, heard, heardBy}
-use Rattle.model.specs.Quiet.{due, effectLater, tickEffect, tickController, tick, ticks}
+use Rattle.model.specs.Quiet.{due, effectLater, pulseEffect, pulseController, pulse, pulses, ticks}
 use Rattle.model.specs.Host.{device, Setting, address, status, replyTime, slm, ls, clearEC, reset, group0, group1, tell}
 use Rattle.model.specs.Calls.{Call, hear, refusal, effect, step}
 use Rattle.model.specs.Past.{Happening, hears, passes, sets, changes, happening, after, Typed, Accepted}
@@ -20,14 +22,15 @@ use Rattle.model.specs.Differ.{ByHost, Hosts, AllHosts, Follows, ended, 
 use Rattle.model.proofs.Shape.{Valid}
 use Rattle.model.proofs.Tables.{effectOf, hear-effect}
 use Rattle.model.proofs.PortDoubt.{waitingPort, over, finishedAs, finished, settle, doubtfulPort, portAffected}
-use Rattle.model.proofs.ButPort.{ButPort, but-effects}
+use Rattle.model.proofs.ButPort.{ButPort, but-effects, but-ages}
+use Rattle.model.proofs.Grown.{pulses-fits, ticks-grown, grown-ages}
 use Rattle.model.proofs.HostCalls.{Sort, event, pause, host, sort, host-step, host-valid}
 use Rattle.model.proofs.Taken.{valid-heard}
 use Rattle.model.proofs.Waits.{waitNow, Live, live-later}
 use Rattle.model.proofs.Holds.{later-valid}
 use Rattle.model.proofs.Invariant.{ToldBy}
 use Rattle.model.proofs.Told.{past-told}
-use Rattle.model.proofs.Same.{Alike, same-effect, same-missed, Same, either-line, same-due, same-tick}
+use Rattle.model.proofs.Same.{Alike, same-effect, same-missed, Same, either-line, same-due, same-pulse}
 use Rattle.model.proofs.Same.{same-host, alike-host, part-host, device-set, same-step}
 use Rattle.model.proofs.Alike.{accepts-same}
 use Rattle.model.proofs.Damage.{Unharmed, kept-stretch, heard-master, same-master, master-accepted, earlier, same-reply, unseen-same}
@@ -135,27 +138,34 @@ valid-hear : (s : World) (y : Hearing) → length (y .words) ≡ 16 → Valid (s
 unfolding effect heardBy heard
 valid-hear s y l = rw (hear-effect s y y, either-line (s .controller .lines) y) (valid-heard (s .areas) y l (y .kind) (s .controller .exchange))
 
-tick-but : (s u : World) (o : Option ℕ) → Same s u → ButPort o (u .areas) (s .areas)
-    → ButPort (settle (portAffected (effectLater (u .areas) (due u))) o) (tick u .areas) (tick s .areas)
-unfolding tick tickEffect
-tick-but s u o k b =
+pulse-but : (s u : World) (o : Option ℕ) → Same s u → ButPort o (u .areas) (s .areas)
+    → ButPort (settle (portAffected (effectLater (u .areas) (due u))) o) (pulse u .areas) (pulse s .areas)
+unfolding pulse pulseEffect
+pulse-but s u o k b =
     but-effects o (u .areas) (s .areas) (k .areas .shape′) (k .areas .shape) b
     (same-missed (s .areas) (u .areas) (k .areas) (due s) ∙ ap (effectLater (u .areas)) (same-due s u k)) (later-valid (u .areas) (due u))
 
-ticks-but : (n : ℕ) (s u : World) (o : Option ℕ) → Same s u → Live (u .controller .exchange) (u .controller .times)
+pulses-but : (n : ℕ) (s u : World) (o : Option ℕ) → Same s u → Live (u .controller .exchange) (u .controller .times)
     → u .controller .times .adopted ≤ 128 → ButPort o (u .areas) (s .areas)
     → ButPort
     (settle (over (waitNow (u .controller .exchange) (u .controller .times) n)
-    (sinkPort (u .areas) (waitNow (u .controller .exchange) (u .controller .times) 0))) o) (ticks n u .areas) (ticks n s .areas)
-unfolding ticks tick tickController tickEffect
-ticks-but zero s u o k l a b = rw (over-now (u .areas) (waitNow (u .controller .exchange) (u .controller .times) 0)) b
-ticks-but (suc n) s u o k l a b =
+    (sinkPort (u .areas) (waitNow (u .controller .exchange) (u .controller .times) 0))) o) (pulses n u .areas) (pulses n s .areas)
+unfolding pulses pulse pulseController pulseEffect
+pulses-but zero s u o k l a b = rw (over-now (u .areas) (waitNow (u .controller .exchange) (u .controller .times) 0)) b
+pulses-but (suc n) s u o k l a b =
     let x = u .controller .exchange in
     let t = u .controller .times in
     let r =
-    ticks-but n (tick s) (tick u) (settle (portAffected (effectLater (u .areas) (due u))) o) (same-tick s u k) (live-later x t l) a
-    (tick-but s u o k b) in
-    subst (λ (p : Option ℕ). ButPort p (ticks n (tick u) .areas) (ticks n (tick s) .areas)) (over-later (u .areas) o n x t l a) r
+    pulses-but n (pulse s) (pulse u) (settle (portAffected (effectLater (u .areas) (due u))) o) (same-pulse s u k) (live-later x t l) a
+    (pulse-but s u o k b) in
+    subst (λ (p : Option ℕ). ButPort p (pulses n (pulse u) .areas) (pulses n (pulse s) .areas)) (over-later (u .areas) o n x t l a) r
+
+-- the ends of the bit times change ages alone, whatever the two phases
+ticks-but : (n : ℕ) (s u : World) (o : Option ℕ) → areasFit (u .areas) ≡ true → areasFit (s .areas) ≡ true
+    → ButPort o (pulses n u .areas) (pulses n s .areas) → ButPort o (ticks n u .areas) (ticks n s .areas)
+ticks-but n s u o f g b =
+    rw (ticks-grown n s g, ticks-grown n u f)
+    (but-ages o b (grown-ages n (pulses n u) (pulses-fits n u f)) (grown-ages n (pulses n s) (pulses-fits n s g)))
 
 -- one call, heard alike and accepted in both
 but-step : (past : List Call) (s : World) (o : Option ℕ) → ToldBy past (after past) → Same s (after past)
@@ -167,7 +177,8 @@ but-step past s o h k b c (event {a} {b = y}) ty al q =
     (but-effects o (after past .areas) (s .areas) (k .areas .shape′) (k .areas .shape) b (effect-hear s (after past) k a)
     (valid-hear (after past) a (ty .0)))
 but-step past s o h k b c (pause {n}) ty al q =
-    rw (← (h .holds .waits n), ← (waiting-told past h)) (ticks-but n s (after past) o k (h .holds .live) (h .holds .short) b)
+    ticks-but n s (after past) _ (k .areas .shape′ .fits) (k .areas .shape .fits)
+    (rw (← (h .holds .waits n), ← (waiting-told past h)) (pulses-but n s (after past) o k (h .holds .live) (h .holds .short) b))
 but-step past s o h k b c (host x) ty al q = but-host past s o (k .areas) b c x q
 
 -- the master frame that ends the stretch
@@ -177,7 +188,7 @@ but-master : (past : List Call) (s : World) (o : Option ℕ) → ButPort o (afte
 unfolding step apply finished
 but-master past s o b x m = rw (master-effect x m (after past), master-effect x m s) b
 
--- after the master frame: the worlds are the same, but for status bits of port o, if there is one
+-- after the master frame: the worlds are the same, but for ages, and for status bits of port o, if there is one
 pub record Joined (o : Option ℕ) (u s : World) : Type 0 where
   pub same : Same s u
   pub but : ButPort o (u .areas) (s .areas)
@@ -222,8 +233,8 @@ joined before stretch d calls f acc =
 
 -- WHAT MAY DIFFER. Any run before; any stretch of damage on two lines; any host calls, a sound master frame heard on both lines, and any
 -- calls heard alike on both lines. If this run is accepted, so is the one without the stretch, and after both exchange, times and device,
--- index table, pages and every port's words are the same, but for status bits of the one port whose master word was waited for when the
--- stretch began; and these too once the exchange at its address has finished, or it was written, closed or opened.
+-- index table, pages and every port's words are the same, but for ages, and for status bits of the one port whose master word was waited
+-- for when the stretch began; and the status bits too once the exchange at its address has finished, or it was written, closed or opened.
 pub may-differ : (before stretch calls : List Call) → Damage before stretch → Follows calls → Accepted (calls ++ (stretch ++ before))
     → Accepted (calls ++ before)
     × MayDiffer (doubtful before (waitingAddress before) calls) (after (calls ++ before)) (after (calls ++ (stretch ++ before)))

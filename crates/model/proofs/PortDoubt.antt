@@ -43,7 +43,7 @@ abbrev pub portAffected : Effect → Option ℕ
 portAffected untouched = none
 portAffected (fill p ws) = some p
 portAffected (mark p x) = some p
-portAffected (opened a p code sink i) = some p
+portAffected (opened a p code sink i limit) = some p
 portAffected (closed a p) = some p
 
 -- the port whose status bits a call sets: that whose wait is over in quiet time, else the one that the call's effect concerns

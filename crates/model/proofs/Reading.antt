@@ -3,16 +3,16 @@
 use Prim.Native.Nat.{ℕ, _<_}
 use mathlib.Core.Path.{_≡_, refl, sym, _∙_, ap}
 use mathlib.Core.Logic.{_↔_}
-use mathlib.Core.Bool.{Bool, true, false, cond}
+use mathlib.Core.Bool.{Bool, true, false, cond, true≢false, false≢true}
 use mathlib.Core.List.{List, [], _∷_}
 use mathlib.Core.Option.{none, some}
 use native.Mathlib.Omega.{arith}
 use lib.Dec.{eqb, ltb}
 use borrow.Author.Tests.{le-ltb, eq-eqb, ne-eqb, eqb-true}
-use Rattle.model.specs.declared.Answer.the-variants.{Never, Good, Held, Refused}
-use Rattle.model.specs.declared.Flags.{Flags}
+use Rattle.model.specs.declared.Answer.the-variants.{Never, Stale, Refused}
+use Rattle.model.specs.declared.Words.{Words}
 use Rattle.model.specs.Layout.{Areas, entry, portAt, flagsOf}
-use Rattle.model.specs.Ports.{Standing, standingOf, standing, validWords, isHeld, stateOf}
+use Rattle.model.specs.Ports.{Standing, standingOf, standing, validWords, isHeld, tooOld, stateBy, stateOf}
 use Rattle.model.specs.Calls.{readPort, atPort, firstOf, refusal, freshOver, portRefusal, asked, refusalOf, partFor, fetched}
 use Rattle.model.specs.Past.{lastOf, shownWords}
 use Rattle.model.proofs.Shape.{Shape}
@@ -35,20 +35,27 @@ asks-closed m shape a low e =
     let number : firstOf (atPort m a []) ≡ 3 = port-first m shape a [] ∙ rw (range, there) in
     rw number
 
-state-number : (f : Flags) → refusalOf (stateOf f) ≡ 0
-unfolding stateOf
-state-number f = go (f .ever) (isHeld (f .faults))
-  where
-    go : (e h : Bool) → refusalOf (cond e (cond h Held Good) Never) ≡ 0
-    go true true = refl
-    go true false = refl
-    go false h = refl
+-- what holds whatever the three tests of a state say holds of each port's words
+by-tests : (P : Bool → Bool → Bool → Type 0) → ((e h s : Bool) → P e h s) → (w : Words)
+    → P (flagsOf (w .flags) .ever) (isHeld (flagsOf (w .flags) .faults)) (tooOld (w .limit) (w .age))
+by-tests P all w = all (flagsOf (w .flags) .ever) (isHeld (flagsOf (w .flags) .faults)) (tooOld (w .limit) (w .age))
 
-answer-number : (k : ℕ) (f : Flags) → refusalOf (cond (eqb k 0) (stateOf f) (Refused k)) ≡ k
-answer-number k f = go (eqb k 0) refl
+state-number : (w : Words) → refusalOf (stateOf w) ≡ 0
+unfolding stateOf
+state-number = by-tests (λ e h s. refusalOf (stateBy e h s) ≡ 0) go
   where
-    go : (b : Bool) → eqb k 0 ≡ b → refusalOf (cond b (stateOf f) (Refused k)) ≡ k
-    go true z = state-number f ∙ sym (eqb-true k 0 z)
+    go : (e h s : Bool) → refusalOf (stateBy e h s) ≡ 0
+    go true true true = refl
+    go true true false = refl
+    go true false true = refl
+    go true false false = refl
+    go false h s = refl
+
+answer-number : (k : ℕ) (w : Words) → refusalOf (cond (eqb k 0) (stateOf w) (Refused k)) ≡ k
+answer-number k w = go (eqb k 0) refl
+  where
+    go : (b : Bool) → eqb k 0 ≡ b → refusalOf (cond b (stateOf w) (Refused k)) ≡ k
+    go true z = state-number w ∙ sym (eqb-true k 0 z)
     go false z = refl
 
 -- asking answers the number of the call's refusal, 0 for none
@@ -57,23 +64,38 @@ unfolding asked
 asked-number m a = answer-number (portRefusal (readPort a) m) _
 
 -- never exactly if not ever filled
-never-empty : (f : Flags) (ws : List ℕ) → (stateOf f ≡ Never) ↔ (cond (f .ever) (some ws) none ≡ none)
+never-empty : (w : Words) (ws : List ℕ) → (stateOf w ≡ Never) ↔ (cond (flagsOf (w .flags) .ever) (some ws) none ≡ none)
 unfolding stateOf
-never-empty f ws = go (f .ever) (isHeld (f .faults))
+never-empty w ws = by-tests (λ e h s. (stateBy e h s ≡ Never) ↔ (cond e (some ws) none ≡ none)) go w
   where
-    go : (e h : Bool) → (cond e (cond h Held Good) Never ≡ Never) ↔ (cond e (some ws) none ≡ none)
-    go true true = (λ p. let z : _≡_ {A = ℕ} 0 1 = cc in absurd (omega arith), λ p. let z : _≡_ {A = ℕ} 0 1 = cc in absurd (omega arith))
-    go true false = (λ p. let z : _≡_ {A = ℕ} 0 1 = cc in absurd (omega arith), λ p. let z : _≡_ {A = ℕ} 0 1 = cc in absurd (omega arith))
-    go false h = (λ p. refl, λ p. refl)
+    filled : (h s : Bool) → stateBy true h s ≡ Never → ⊥
+    filled true true p = let z : _≡_ {A = ℕ} 0 1 = cc in omega arith
+    filled true false p = let z : _≡_ {A = ℕ} 0 1 = cc in omega arith
+    filled false true p = let z : _≡_ {A = ℕ} 0 1 = cc in omega arith
+    filled false false p = let z : _≡_ {A = ℕ} 0 1 = cc in omega arith
 
-part-shown : (f : Flags) (ws : List ℕ) → partFor (stateOf f) ws ≡ shownWords (cond (f .ever) (some ws) none)
+    go : (e h s : Bool) → (stateBy e h s ≡ Never) ↔ (cond e (some ws) none ≡ none)
+    go true h s = (λ p. absurd (filled h s p), λ p. let z : _≡_ {A = ℕ} 0 1 = cc in absurd (omega arith))
+    go false h s = (λ p. refl, λ p. refl)
+
+part-shown : (w : Words) (ws : List ℕ) → partFor (stateOf w) ws ≡ shownWords (cond (flagsOf (w .flags) .ever) (some ws) none)
 unfolding stateOf
-part-shown f ws = go (f .ever) (isHeld (f .faults))
+part-shown w ws = by-tests (λ e h s. partFor (stateBy e h s) ws ≡ shownWords (cond e (some ws) none)) go w
   where
-    go : (e h : Bool) → partFor (cond e (cond h Held Good) Never) ws ≡ shownWords (cond e (some ws) none)
-    go true true = refl
-    go true false = refl
-    go false h = refl
+    go : (e h s : Bool) → partFor (stateBy e h s) ws ≡ shownWords (cond e (some ws) none)
+    go true true true = refl
+    go true true false = refl
+    go true false true = refl
+    go true false false = refl
+    go false h s = refl
+
+-- stale exactly if ever filled, not held, and stale by limit and age
+pub stale-exactly : (e h s : Bool) → (stateBy e h s ≡ Stale) ↔ ((e ≡ true) × (h ≡ false) × (s ≡ true))
+stale-exactly true true true = (λ p. let z : _≡_ {A = ℕ} 0 1 = cc in absurd (omega arith), λ p. absurd (true≢false (p .1)))
+stale-exactly true true false = (λ p. let z : _≡_ {A = ℕ} 0 1 = cc in absurd (omega arith), λ p. absurd (true≢false (p .1)))
+stale-exactly true false true = (λ p. (refl, refl, refl), λ p. refl)
+stale-exactly true false false = (λ p. let z : _≡_ {A = ℕ} 0 1 = cc in absurd (omega arith), λ p. absurd (false≢true (p .2)))
+stale-exactly false h s = (λ p. let z : _≡_ {A = ℕ} 0 1 = cc in absurd (omega arith), λ p. absurd (false≢true (p .0)))
 
 module _ (m : Areas) (shape : Shape m) (a : ℕ) (v : Standing) (seen : standing m a ≡ some v) where
   -- reading it is not refused
@@ -86,7 +108,7 @@ module _ (m : Areas) (shape : Shape m) (a : ℕ) (v : Standing) (seen : standing
       accepts (readPort a) (freshOver m) (port-in m shape a [] range there tt)
 
   -- the port is seen whole
-  whole : v .shows ≡ cond (flagsOf (portAt m (entry m a) .flags) .ever) (some (validWords m (entry m a))) none
+  pub whole : v .shows ≡ cond (flagsOf (portAt m (entry m a) .flags) .ever) (some (validWords m (entry m a))) none
   unfolding standingOf
   whole =
       let at = standing-at m a v seen in
@@ -95,9 +117,9 @@ module _ (m : Areas) (shape : Shape m) (a : ℕ) (v : Standing) (seen : standing
   -- asking answers never exactly where the port shows no words
   pub asks-never : (asked m a ≡ Never) ↔ (v .shows ≡ none)
   unfolding asked
-  asks-never = rw (readable, whole) (never-empty (flagsOf (portAt m (entry m a) .flags)) (validWords m (entry m a)))
+  asks-never = rw (readable, whole) (never-empty (portAt m (entry m a)) (validWords m (entry m a)))
 
   -- fetching hands back the words that the port shows, and nothing where it shows none
   pub fetches : fetched m a ≡ shownWords (v .shows)
   unfolding asked fetched
-  fetches = rw (readable, whole) (part-shown (flagsOf (portAt m (entry m a) .flags)) (validWords m (entry m a)))
+  fetches = rw (readable, whole) (part-shown (portAt m (entry m a)) (validWords m (entry m a)))

@@ -22,7 +22,7 @@ use Rattle.model.specs.Past.{Happening, hears, passes, sets, changes, ha
 use Rattle.model.specs.Damage.{HeardAlike}
 use Rattle.model.specs.Differ.{Hosts}
 use Rattle.model.specs.Event.{World, portFor, answerTo, exchangeFor, heard, heardBy, asHeard}
-use Rattle.model.specs.Quiet.{times, expired, due, effectLater, exchangeLater, timesLater, tickEffect, tickController, tick, ticks}
+use Rattle.model.specs.Quiet.{times, expired, due, effectLater, exchangeLater, timesLater, pulseEffect, pulseController, pulse, pulses, ticks}
 use Rattle.model.proofs.Shape.{Shape, Valid, standingAfter}
 use Rattle.model.proofs.Tables.{hear-controller, hear-effect, exchangeAfter, timesAfter, effectOf}
 use Rattle.model.proofs.HostCalls.{Sort, event, pause, host, sort, hosted, host-step, host-valid}
@@ -30,6 +30,8 @@ use Rattle.model.proofs.Taken.{valid-heard}
 use Rattle.model.proofs.Holds.{later-valid}
 use Rattle.model.proofs.Standings.{standing-at, none-entry}
 use Rattle.model.proofs.ShapeKept.{shape-apply, standing-apply}
+use Rattle.model.proofs.Ageing.{standing-ages, shape-ages}
+use Rattle.model.proofs.Grown.{grownBy, ticks-grown, grown-ages}
 
 -- two areas whose addresses show the same
 pub record Alike (m n : Areas) : Type 0 where
@@ -147,10 +149,10 @@ module _ (s u : World) (k : Same s u) where
   pub same-due : due s ≡ due u
   same-due = ap₂ expired (k .exchange) (k .times)
 
-  -- a quiet bit time leaves them the same
-  pub same-tick : Same (tick s) (tick u)
-  unfolding tick tickController tickEffect
-  same-tick =
+  -- the rules of a quiet bit time leave them the same
+  pub same-pulse : Same (pulse s) (pulse u)
+  unfolding pulse pulseController pulseEffect
+  same-pulse =
       record {
         areas =
             alike-effects M N (k .areas) (same-missed M N (k .areas) (due s) ∙ ap (effectLater N) same-due) (later-valid M (due s))
@@ -160,10 +162,33 @@ module _ (s u : World) (k : Same s u) where
         device = k .device;
       }
 
+same-pulses : (n : ℕ) (s u : World) → Same s u → Same (pulses n s) (pulses n u)
+unfolding pulses
+same-pulses zero s u k = k
+same-pulses (suc n) s u k = same-pulses n (pulse s) (pulse u) (same-pulse s u k)
+
+-- so do their ends, whatever the two phases
+same-grown : (n : ℕ) (s u : World) → Same s u → Same (grownBy n s) (grownBy n u)
+unfolding grownBy
+same-grown n s u k =
+    let b = grown-ages n s (k .areas .shape .fits) in
+    let d = grown-ages n u (k .areas .shape′ .fits) in
+    record {
+      areas =
+          record {
+            shape = shape-ages b (k .areas .shape);
+            shape′ = shape-ages d (k .areas .shape′);
+            stands = λ a. standing-ages b a ∙ k .areas .stands a ∙ sym (standing-ages d a);
+          };
+      exchange = k .exchange;
+      times = k .times;
+      device = k .device;
+    }
+
 same-ticks : (n : ℕ) (s u : World) → Same s u → Same (ticks n s) (ticks n u)
-unfolding ticks
-same-ticks zero s u k = k
-same-ticks (suc n) s u k = same-ticks n (tick s) (tick u) (same-tick s u k)
+same-ticks n s u k =
+    rw (ticks-grown n s (k .areas .shape .fits), ticks-grown n u (k .areas .shape′ .fits))
+    (same-grown n (pulses n s) (pulses n u) (same-pulses n s u k))
 
 same-pause : (n : ℕ) (s u : World) → Same s u → Same (step (quiet n) s) (step (quiet n) u)
 unfolding step
@@ -176,7 +201,7 @@ pub same-host : (s u : World) → Alike (s .areas) (u .areas) → (c : Call) →
 unfolding effect
 same-host s u k (hear a b) h = absurd h
 same-host s u k (quiet n) h = absurd h
-same-host s u k (openPort a p code sink i) h = refl
+same-host s u k (openPort a p code sink i limit) h = refl
 same-host s u k (closePort a) h = ap (closed a) (same-entry _ _ k a)
 same-host s u k (writePort a ws) h = ap (λ (n : ℕ). fill n ws) (same-entry _ _ k a)
 same-host s u k (readPort a) h = refl

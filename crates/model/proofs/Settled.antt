@@ -1,27 +1,28 @@
--- What follows from `MayDiffer`: with no port in doubt the areas are equal word for word; asking answers the same at every address but the
--- doubtful port's; every call is answered with the same number, and every master frame with the same reply. Assumes nothing.
-use Prim.Native.Nat.{ℕ, zero, suc, _+_, _/_, _%_, _<_}
+-- What follows from `MayDiffer`: with no port in doubt the areas are equal word for word, ages aside; asking answers the same, good against
+-- stale aside, at every address but the doubtful port's; every call is answered with the same number, and every master frame with the same
+-- reply. Assumes nothing.
+use Prim.Native.Nat.{ℕ}
 use mathlib.Core.Path.{_≡_, refl, sym, _∙_, ap, ap₂}
 use mathlib.Core.Logic.{_⊎_, inl, inr}
 use mathlib.Core.Bool.{Bool, true, false, cond, true≢false}
 use mathlib.Core.List.{List, [], _∷_, _++_}
 use mathlib.Core.Option.{Option, none, some}
-use native.Mathlib.Nat.{add-zero}
 use native.Mathlib.Omega.{arith}
 use lib.Dec.{eqb}
 use borrow.Author.Tests.{eqb-true, eq-eqb}
-use lib.ListN.{length, getD}
-use lib.Seq.{ext-getD}
 use Rattle.frames.specs.declared.Hearing.{Hearing}
+use Rattle.model.specs.declared.Answer.{Answer}
 use Rattle.model.specs.declared.Answer.the-variants.{Refused}
+use Rattle.model.specs.declared.Flags.{Flags}
 use Rattle.model.specs.declared.Words.{Words}
-use Rattle.model.specs.Layout.{Areas, areas, entry, place, wordsAt, portAt, flagsOf}
-use Rattle.model.specs.Ports.{codeOf, validWords, stateOf, Standing, standing}
+use Rattle.model.specs.Layout.{Areas, entry, portAt, flagsOf}
+use Rattle.model.specs.Ports.{codeOf, validWords, isHeld, tooOld, stateBy, stateOf, Standing, standing}
 use Rattle.model.specs.Event.{World}
 use Rattle.model.specs.Calls.{Call, hear, readPort, noPort, freshOver, portRefusal, refusal, answer, asked, partFor, fetched}
 use Rattle.model.specs.Past.{after, Accepted, firstWord}
+use Rattle.model.specs.Taken.{ageless, ButAges}
 use Rattle.model.specs.Damage.{Damage, SoundMaster}
-use Rattle.model.specs.Differ.{AllHosts, Follows, ended, then, waitingAddress, finishes, remains, doubtful}
+use Rattle.model.specs.Differ.{AllHosts, Follows, ended, then, waitingAddress, finishes, remains, doubtful, staleAside}
 use Rattle.model.proofs.PortDoubt.{portAtAddress}
 use Rattle.model.proofs.ButPort.{ButPort}
 use Rattle.model.proofs.Formed.{lengths}
@@ -37,36 +38,54 @@ use Rattle.model.proofs.Damage.{same-reply}
 
 -- ---- no port in doubt
 
--- port words that are the same at every port are the same list
-ports-equal : (l k : List ℕ) → length k ≡ length l → ((p : ℕ) → wordsAt k p ≡ wordsAt l p) → k ≡ l
-unfolding wordsAt
-ports-equal l k e h = ext-getD 0 k l e (λ i b. at i (i / 4) (i % 4) (omega arith) (omega arith))
-  where
-    at : (i p r : ℕ) → i ≡ place p + r → r < 4 → getD k i 0 ≡ getD l i 0
-    at i p zero j b = rw (j, add-zero (place p)) (ap (λ (w : Words). w .master) (h p))
-    at i p (suc zero) j b = rw j (ap (λ (w : Words). w .flags) (h p))
-    at i p (suc (suc zero)) j b = rw j (ap (λ (w : Words). w .interrupt) (h p))
-    at i p (suc (suc (suc zero))) j b = rw j (ap (λ (w : Words). w .fills) (h p))
-    at i p (suc (suc (suc (suc r)))) j b = absurd (omega arith)
-
-areas-equal : (m n : Areas) → Alike n m → ButPort none m n → n ≡ m
-areas-equal m n k b =
-    let long : length (n .ports) ≡ length (m .ports) =
-    lengths n (k .shape .fits) .ports ∙ sym (lengths m (k .shape′ .fits) .ports) in
-    let words : n .ports ≡ m .ports =
-    ports-equal (m .ports) (n .ports) long (λ p. b .same p (λ e. let z : _≡_ {A = ℕ} 0 1 = cc in omega arith)) in
-    ap₂ (λ (i p : List ℕ). areas i p (n .page0) (n .page1)) (b .only .index) words
-    ∙ ap₂ (λ (z o : List ℕ). areas (m .index) (m .ports) z o) (b .only .page0) (b .only .page1)
+areas-but-ages : (m n : Areas) → Alike n m → ButPort none m n → ButAges m n
+areas-but-ages m n k b =
+    record {
+      index = b .only .index;
+      long = lengths n (k .shape .fits) .ports ∙ sym (lengths m (k .shape′ .fits) .ports);
+      ports = λ p. b .same p (λ e. let z : _≡_ {A = ℕ} 0 1 = cc in omega arith);
+      page0 = b .only .page0;
+      page1 = b .only .page1;
+    }
 
 -- ---- asking
 
-asked-but : (m n : Areas) → Alike n m → (o : Option ℕ) → ButPort o m n → (a : ℕ) → (o ≡ some (entry m a) → ⊥) → asked n a ≡ asked m a
-unfolding asked portRefusal
+-- the state of a port but for its age: by its flags
+abbrev flagsState : Flags → Answer
+flagsState f = stateBy (f .ever) (isHeld (f .faults)) false
+
+state-aside : (w : Words) → staleAside (stateOf w) ≡ flagsState (flagsOf (w .flags))
+unfolding stateOf
+state-aside w = go (flagsOf (w .flags) .ever) (isHeld (flagsOf (w .flags) .faults)) (tooOld (w .limit) (w .age))
+  where
+    go : (e h s : Bool) → staleAside (stateBy e h s) ≡ stateBy e h false
+    go true true s = refl
+    go true false true = refl
+    go true false false = refl
+    go false h s = refl
+
+asked-aside : (m : Areas) (a : ℕ)
+    → staleAside (asked m a)
+    ≡ cond (eqb (portRefusal (readPort a) m) 0) (flagsState (flagsOf (portAt m (entry m a) .flags))) (Refused (portRefusal (readPort a) m))
+unfolding asked
+asked-aside m a = go (eqb (portRefusal (readPort a) m) 0)
+  where
+    go : (b : Bool)
+        → staleAside (cond b (stateOf (portAt m (entry m a))) (Refused (portRefusal (readPort a) m)))
+        ≡ cond b (flagsState (flagsOf (portAt m (entry m a) .flags))) (Refused (portRefusal (readPort a) m))
+    go true = state-aside (portAt m (entry m a))
+    go false = refl
+
+asked-but : (m n : Areas) → Alike n m → (o : Option ℕ) → ButPort o m n → (a : ℕ) → (o ≡ some (entry m a) → ⊥)
+    → staleAside (asked n a) ≡ staleAside (asked m a)
+unfolding portRefusal
 asked-but m n k o b a x =
     let r : refusal (readPort a) (freshOver n) ≡ refusal (readPort a) (freshOver m) = refuses-same (freshOver n) (freshOver m) k (readPort a) in
-    let w : portAt n (entry n a) ≡ portAt m (entry m a) =
-    ap (portAt n) (same-entry n m k a) ∙ b .same (entry m a) x in
-    ap₂ (λ (f : ℕ) (q : ℕ). cond (eqb q 0) (stateOf (flagsOf f)) (Refused q)) (ap (λ (v : Words). v .flags) w) r
+    let w : ageless (portAt n (entry n a)) ≡ ageless (portAt m (entry m a)) =
+    ap (λ (p : ℕ). ageless (portAt n p)) (same-entry n m k a) ∙ b .same (entry m a) x in
+    asked-aside n a
+    ∙ ap₂ (λ (f : ℕ) (q : ℕ). cond (eqb q 0) (flagsState (flagsOf f)) (Refused q)) (ap (λ (v : Words). v .flags) w) r
+    ∙ sym (asked-aside m a)
 
 -- ---- fetching
 
@@ -76,7 +95,7 @@ unfolding fetched asked portRefusal
 closed-empty m a z = go (eqb (refusal (readPort a) (freshOver m)) 0) refl
   where
     go : (b : Bool) → eqb (refusal (readPort a) (freshOver m)) 0 ≡ b
-        → partFor (cond b (stateOf (flagsOf (portAt m (entry m a) .flags))) (Refused (refusal (readPort a) (freshOver m))))
+        → partFor (cond b (stateOf (portAt m (entry m a))) (Refused (refusal (readPort a) (freshOver m))))
         (validWords m (entry m a)) ≡ []
     go true e = absurd (true≢false (sym (eq-eqb _ 0 z) ∙ accepted (readPort a) (freshOver m) (eqb-true _ _ e) noPort))
     go false e = refl
@@ -109,13 +128,13 @@ module _ (before stretch calls : List Call) (d : Damage before stretch) (f : Fol
   both : Joined (portAtAddress (calls ++ before) doubt) clean damaged
   both = rw (waiting-address before calls shorter) (joined before stretch d calls f acc .1)
 
-  -- Once the port that waited has finished an exchange, or if none waited, the four areas are equal word for word.
-  pub areas-same : doubt ≡ none → damaged .areas ≡ clean .areas
+  -- Once the port that waited has finished an exchange, or if none waited, the four areas are equal word for word, ages aside.
+  pub areas-same : doubt ≡ none → ButAges (clean .areas) (damaged .areas)
   areas-same e =
-      areas-equal (clean .areas) (damaged .areas) (both .same .areas) (rw e at (both .but))
+      areas-but-ages (clean .areas) (damaged .areas) (both .same .areas) (rw e at (both .but))
 
-  -- Asking answers the same at every address but the one in doubt: good against held there alone.
-  pub asked-same : (a : ℕ) → (doubt ≡ some a → ⊥) → asked (damaged .areas) a ≡ asked (clean .areas) a
+  -- Asking answers the same, good against stale aside, at every address but the one in doubt: good against held there alone.
+  pub asked-same : (a : ℕ) → (doubt ≡ some a → ⊥) → staleAside (asked (damaged .areas) a) ≡ staleAside (asked (clean .areas) a)
   asked-same a n =
       asked-but (clean .areas) (damaged .areas) (both .same .areas) _ (both .but) a
       (λ e. n (here-alone (calls ++ before) (past-told (calls ++ before) shorter) doubt a e))

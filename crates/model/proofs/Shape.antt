@@ -41,8 +41,8 @@ pub data Valid (m : Areas) : Effect → Type 0 where
   filling : {a p w : ℕ} {ws : List ℕ} → At m a p w → length ws ≡ sizeOf (codeOf w) → Valid m (fill p ws)
   marking : {a p w : ℕ} {x : Faults} → At m a p w → Valid m (mark p x)
   -- the address and the port are free
-  opening : {a p code : ℕ} {sink : Bool} {i : ℕ} → a < 4096 → 0 < p → p ≤ 255 → code ≤ 4 → i ≤ 7 → entry m a ≡ 0 → portAt m p .flags ≡ 0
-      → Valid m (opened a p code sink i)
+  opening : {a p code : ℕ} {sink : Bool} {i limit : ℕ} → a < 4096 → 0 < p → p ≤ 255 → code ≤ 4 → i ≤ 7 → entry m a ≡ 0 → portAt m p .flags ≡ 0
+      → Valid m (opened a p code sink i limit)
   closing : {a p w : ℕ} → At m a p w → Valid m (closed a p)
 
 -- a port that shows words, with one fill more
@@ -55,12 +55,13 @@ refill ws v =
       interrupt = v .interrupt;
       shows = some ws;
       fills = (v .fills + 1) % 65536;
+      limit = v .limit;
     }
 
 -- a port just opened: it shows no words, and has no fills
-abbrev pub justOpened : ℕ → ℕ → ℕ → Bool → ℕ → Standing
-justOpened a p code sink i =
-    record { port = p; word = masterWord code a; sink = sink; interrupt = i; shows = none; fills = 0 }
+abbrev pub justOpened : ℕ → ℕ → ℕ → Bool → ℕ → ℕ → Standing
+justOpened a p code sink i limit =
+    record { port = p; word = masterWord code a; sink = sink; interrupt = i; shows = none; fills = 0; limit = limit }
 
 -- what stands at an address, after words filled port p: it shows them if it is this port
 abbrev pub refillIf : ℕ → List ℕ → Option Standing → Option Standing
@@ -73,5 +74,5 @@ abbrev pub standingAfter : Effect → ℕ → Option Standing → Option Standin
 standingAfter untouched a v = v
 standingAfter (fill p ws) a v = refillIf p ws v
 standingAfter (mark p x) a v = v
-standingAfter (opened b p code sink i) a v = cond (eqb b a) (some (justOpened b p code sink i)) v
+standingAfter (opened b p code sink i limit) a v = cond (eqb b a) (some (justOpened b p code sink i limit)) v
 standingAfter (closed b p) a v = cond (eqb b a) none v

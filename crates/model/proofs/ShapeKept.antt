@@ -89,20 +89,20 @@ own-free {m} a p h free unused =
 
 -- ---- each effect is a change at one address and its own port, and what address b then shows
 
-module _ {m : Areas} (s : Shape m) (a p code : ℕ) (sink : Bool) (i : ℕ) (ha : a < 4096) (pos : 0 < p) (hp : p ≤ 255) (hc : code ≤ 4)
+module _ {m : Areas} (s : Shape m) (a p code : ℕ) (sink : Bool) (i limit : ℕ) (ha : a < 4096) (pos : 0 < p) (hp : p ≤ 255) (hc : code ≤ 4)
     (hi : i ≤ 7) (free : entry m a ≡ 0) (unused : portAt m p .flags ≡ 0) where
-  open-change : Changed m (apply (opened a p code sink i) m) a p p (openWords a code sink i)
+  open-change : Changed m (apply (opened a p code sink i limit) m) a p p (openWords a code sink i limit)
   unfolding apply
   open-change =
       changed s (own-free a p hp free unused) (entry-set (m .index) a p (omega (arith, lengths m (s .fits) .index)))
-      (part-kept p (m .page0)) (part-kept p (m .page1)) (inr (refl, open-formed a code sink i ha hc hi))
+      (part-kept p (m .page0)) (part-kept p (m .page1)) (inr (refl, open-formed a code sink i limit ha hc hi))
 
-  standing-open : (b : ℕ) → standing (apply (opened a p code sink i) m) b ≡ cond (eqb a b) (some (justOpened a p code sink i)) (standing m b)
+  standing-open : (b : ℕ) → standing (apply (opened a p code sink i limit) m) b ≡ cond (eqb a b) (some (justOpened a p code sink i limit)) (standing m b)
   unfolding standingOf openWords
   standing-open b =
-      let fresh : standingOf (apply (opened a p code sink i) m) p ≡ justOpened a p code sink i =
+      let fresh : standingOf (apply (opened a p code sink i limit) m) p ≡ justOpened a p code sink i limit =
       rw (open-change .words-here, flags-of-word (openFlags sink)) in
-      standing-change open-change s (standing-here open-change pos refl (open-formed a code sink i ha hc hi) ∙ ap some fresh) b
+      standing-change open-change s (standing-here open-change pos refl (open-formed a code sink i limit ha hc hi) ∙ ap some fresh) b
 
 module _ {m : Areas} {a p w : ℕ} (s : Shape m) (h : Here m a p w) where
   close-change : Changed m (apply (closed a p) m) a p 0 noWords
@@ -184,8 +184,8 @@ unfolding apply
 shape-apply e m s nothing = s
 shape-apply e m s (filling {ws = ws} at size) = shape-change (fill-change s (at-here at) ws size) s
 shape-apply e m s (marking {x = x} at) = shape-change (mark-change s (at-here at) x) s
-shape-apply e m s (opening {a} {p} {code} {sink} {i} ha pos hp hc hi free unused) =
-    shape-change (open-change s a p code sink i ha pos hp hc hi free unused) s
+shape-apply e m s (opening {a} {p} {code} {sink} {i} {limit} ha pos hp hc hi free unused) =
+    shape-change (open-change s a p code sink i limit ha pos hp hc hi free unused) s
 shape-apply e m s (closing at) = shape-change (close-change s (at-here at)) s
 
 -- Every valid effect does to what stands at an address what `standingAfter` says.
@@ -194,6 +194,6 @@ unfolding apply
 standing-apply e m b s nothing = refl
 standing-apply e m b s (filling {ws = ws} at size) = standing-fill s (at-here at) ws size b
 standing-apply e m b s (marking {x = x} at) = standing-mark s (at-here at) x b
-standing-apply e m b s (opening {a} {p} {code} {sink} {i} ha pos hp hc hi free unused) =
-    standing-open s a p code sink i ha pos hp hc hi free unused b
+standing-apply e m b s (opening {a} {p} {code} {sink} {i} {limit} ha pos hp hc hi free unused) =
+    standing-open s a p code sink i limit ha pos hp hc hi free unused b
 standing-apply e m b s (closing at) = standing-close s (at-here at) b

@@ -117,6 +117,7 @@ controllerAfter c m h t o =
       group0 = raiseAll (raised0 m (c .exchange) (c .times) h) (c .group0);
       group1 = raiseAll (raised1 (c .counts) h) (c .group1);
       device = c .device;
+      phase = c .phase;
     }
 
 -- ---- they are what the event brings

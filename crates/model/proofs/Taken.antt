@@ -1,7 +1,7 @@
 -- Which bus events fill a port: exactly those in which a sound slave frame answers the master word of an open sink. Assumes nothing.
 use Prim.Native.Nat.{ℕ}
 use mathlib.Core.Path.{_≡_, refl, sym, _∙_, ap}
-use mathlib.Core.Bool.{Bool, true, false, cond, _&&_, false≢true, and-eq-true-iff}
+use mathlib.Core.Bool.{Bool, true, false, cond, _&&_, true≢false, false≢true, and-false, and-eq-true-iff}
 use mathlib.Core.List.{List, _∷_}
 use mathlib.Core.Option.{Option, none, some}
 use native.Mathlib.Decide.{ℕ-discrete}
@@ -21,7 +21,8 @@ use Rattle.model.specs.declared.Exchange.{Exchange}
 use Rattle.model.specs.declared.Exchange.the-variants.{Idle, Waiting, Done}
 use Rattle.model.specs.declared.Times.{Times}
 use Rattle.model.specs.Layout.{Areas}
-use Rattle.model.specs.Ports.{codeOf, addressOf, Standing, standing, viewOf, viewed, refilled, apply}
+use Rattle.model.specs.Ports.{codeOf, addressOf, Standing, standing, viewOf, viewed, refilled, Effect, untouched, fill, mark, opened, closed}
+use Rattle.model.specs.Ports.{apply}
 use Rattle.model.specs.declared.Heard.the-variants.{Reply}
 use Rattle.model.specs.Event.{interruptOf, asMaster, asHeard, portFor, sinkFor, taken}
 use Rattle.model.specs.Taken.{still, marks, Took, takes, spares}
@@ -51,10 +52,6 @@ taken-viewed f ws (some v) = go (v .sink && f (v .word))
     go true = refl
     go false = refl
 
-and-false : (a : Bool) → (a && false) ≡ false
-and-false true = refl
-and-false false = refl
-
 -- where no word passes, nothing is taken
 none-taken : (f : ℕ → Bool) (ws : List ℕ) (o : Option Standing) → ((w : ℕ) → f w ≡ false) → o ≡ takenBy f ws o
 none-taken f ws none h = refl
@@ -66,6 +63,39 @@ unfolding portFor
 sink-found m a v e k =
     let at = standing-at m a v e in
     rw (le-leb (codeOf (v .word)) 4 (at .code), at .address, e, eq-eqb (v .word) (v .word) refl, k)
+
+-- no sink is found for w: then none with this word is open
+pub none-found : (m : Areas) (w : ℕ) → sinkFor m w ≡ none → (a : ℕ) (v : Standing) → standing m a ≡ some v → (v .sink && eqb w (v .word)) ≡ false
+none-found m w n a v e = go (v .sink) (eqb w (v .word)) refl refl
+  where
+    go : (b c : Bool) → v .sink ≡ b → eqb w (v .word) ≡ c → (b && c) ≡ false
+    go true true eb ec = absurd (nowhere (sym n ∙ ap (sinkFor m) (eqb-true _ _ ec) ∙ sink-found m a v e eb))
+    go true false eb ec = refl
+    go false c eb ec = refl
+
+-- the sink u is found for w: it is the one port that stands open as a sink with this word
+pub found-port : (m : Areas) (w : ℕ) (u : Standing) → sinkFor m w ≡ some u → (a : ℕ) (v : Standing) → standing m a ≡ some v
+    → eqb (v .port) (u .port) ≡ (v .sink && eqb w (v .word))
+found-port m w u found a v e = go (ℕ-discrete (v .port) (u .port))
+  where
+    at : Sink m w u
+    at = sink-open m w u found
+
+    go : Dec (v .port ≡ u .port) → eqb (v .port) (u .port) ≡ (v .sink && eqb w (v .word))
+    go (yes p) =
+        let here : a ≡ addressOf w = distinct m a (addressOf w) v u e (at .there) p in
+        let seen : some v ≡ some u = sym e ∙ ap (standing m) here ∙ at .there in
+        let same : v ≡ u = cc in
+        rw (eq-eqb _ _ p, ap (λ (x : Standing). x .sink) same ∙ at .sink, ap (λ (x : Standing). x .word) same ∙ at .word, eq-eqb w w refl)
+    go (no n) = rw (ne-eqb _ _ n) (sym (other (v .sink) (eqb w (v .word)) refl refl))
+      where
+        other : (b c : Bool) → v .sink ≡ b → eqb w (v .word) ≡ c → (b && c) ≡ false
+        other true true eb ec =
+            let q : some u ≡ some v = sym found ∙ ap (sinkFor m) (eqb-true _ _ ec) ∙ sink-found m a v e eb in
+            let z : u ≡ v = cc in
+            absurd (n (sym (ap (λ (x : Standing). x .port) z)))
+        other true false eb ec = refl
+        other false c eb ec = refl
 
 module _ (m : Areas) (h : Hearing) (w : ℕ) where
   -- the words that pass while w is waited for
@@ -80,42 +110,26 @@ module _ (m : Areas) (h : Hearing) (w : ℕ) where
       go true eb = rw (← (eqb-true w v eb), e)
       go false eb = refl
 
-  -- no sink is found for w: then none is open for it
+  -- no sink is found for w: then none whose word passes is open
   none-open : sinkFor m w ≡ none → (a : ℕ) (v : Standing) → standing m a ≡ some v → (v .sink && passes (v .word)) ≡ false
   unfolding passes
-  none-open n a v e = go (v .sink) (eqb w (v .word)) refl refl
+  none-open n a v e =
+      go (v .sink) (eqb w (v .word)) (none-found m w n a v e)
     where
-      go : (b c : Bool) → v .sink ≡ b → eqb w (v .word) ≡ c → (b && (c && isSound (judgedSlave (codeOf (v .word)) h))) ≡ false
-      go true true eb ec = absurd (nowhere (sym n ∙ ap (sinkFor m) (eqb-true _ _ ec) ∙ sink-found m a v e eb))
-      go true false eb ec = refl
-      go false c eb ec = refl
+      go : (b c : Bool) → (b && c) ≡ false → (b && (c && isSound (judgedSlave (codeOf (v .word)) h))) ≡ false
+      go true true f = absurd (true≢false f)
+      go true false f = refl
+      go false c f = refl
 
   -- the sink u is found for w: it is the one port that takes the frame
   module _ (u : Standing) (found : sinkFor m w ≡ some u) (sound : judgedSlave (codeOf w) h ≡ Sound) where
     one-port : (a : ℕ) (v : Standing) → standing m a ≡ some v → eqb (v .port) (u .port) ≡ (v .sink && passes (v .word))
     unfolding passes
-    one-port a v e = go (ℕ-discrete (v .port) (u .port))
+    one-port a v e = found-port m w u found a v e ∙ ap (λ (b : Bool). v .sink && b) (go (eqb w (v .word)) refl)
       where
-        at : Sink m w u
-        at = sink-open m w u found
-
-        go : Dec (v .port ≡ u .port)
-            → eqb (v .port) (u .port) ≡ (v .sink && (eqb w (v .word) && isSound (judgedSlave (codeOf (v .word)) h)))
-        go (yes p) =
-            let here : a ≡ addressOf w = distinct m a (addressOf w) v u e (at .there) p in
-            let seen : some v ≡ some u = sym e ∙ ap (standing m) here ∙ at .there in
-            let same : v ≡ u = cc in
-            rw
-            (eq-eqb _ _ p, ap (λ (x : Standing). x .sink) same ∙ at .sink, ap (λ (x : Standing). x .word) same ∙ at .word, eq-eqb w w refl, sound)
-        go (no n) = rw (ne-eqb _ _ n) (sym (other (v .sink) (eqb w (v .word)) refl refl))
-          where
-            other : (b c : Bool) → v .sink ≡ b → eqb w (v .word) ≡ c → (b && (c && isSound (judgedSlave (codeOf (v .word)) h))) ≡ false
-            other true true eb ec =
-                let q : some u ≡ some v = sym found ∙ ap (sinkFor m) (eqb-true _ _ ec) ∙ sink-found m a v e eb in
-                let z : u ≡ v = cc in
-                absurd (n (sym (ap (λ (x : Standing). x .port) z)))
-            other true false eb ec = refl
-            other false c eb ec = refl
+        go : (c : Bool) → eqb w (v .word) ≡ c → c ≡ (c && isSound (judgedSlave (codeOf (v .word)) h))
+        go true ec = rw (← (eqb-true w (v .word) ec), sound)
+        go false ec = refl
 
   -- while w is waited for, a slave frame is taken by the sinks whose word passes
   while-waiting : Shape m → length (h .words) ≡ 16 → (a : ℕ)
@@ -152,6 +166,35 @@ taken-exactly m s h l MasterFrame x t v a = go (judgedMaster h)
 taken-exactly m s h l SlaveFrame Idle t v a = none-taken _ (wordsOf h) (standing m a) (λ w. refl)
 taken-exactly m s h l SlaveFrame Done t v a = none-taken _ (wordsOf h) (standing m a) (λ w. refl)
 taken-exactly m s h l SlaveFrame (Waiting w) t v a = rw (waits-now w t v) (while-waiting m h w s l a)
+
+-- an effect fills port q
+abbrev pub fillsPort : Effect → ℕ → Bool
+fillsPort untouched q = false
+fillsPort (fill p ws) q = eqb q p
+fillsPort (mark p x) q = false
+fillsPort (opened a p code sink i limit) q = false
+fillsPort (closed a p) q = false
+
+-- So the port of an address is filled exactly when it is a sink whose master word is soundly answered.
+pub fills-exactly : (m : Areas) (h : Hearing) (k : Kind) (x : Exchange) (t : Times) → Live x t → (a : ℕ) (v : Standing) → standing m a ≡ some v
+    → fillsPort (effectOf m (asHeard k x h) h) (v .port) ≡ (v .sink && soundAnswer k (waitNow x t 0) h (v .word))
+unfolding passes
+fills-exactly m h Silence x t l a v e = sym (and-false (v .sink))
+fills-exactly m h Noise x t l a v e = sym (and-false (v .sink))
+fills-exactly m h MasterFrame x t l a v e = go (judgedMaster h) ∙ sym (and-false (v .sink))
+  where
+    go : (j : Judgement) → fillsPort (effectOf m (asMaster j h) h) (v .port) ≡ false
+    go Sound = refl
+    go (Bad wrong) = refl
+fills-exactly m h SlaveFrame Idle t l a v e = sym (and-false (v .sink))
+fills-exactly m h SlaveFrame Done t l a v e = sym (and-false (v .sink))
+fills-exactly m h SlaveFrame (Waiting w) t l a v e = rw (waits-now w t l) (go (sinkFor m w) refl (judgedSlave (codeOf w) h) refl)
+  where
+    go : (o : Option Standing) → sinkFor m w ≡ o → (j : Judgement) → judgedSlave (codeOf w) h ≡ j
+        → fillsPort (taken o j h) (v .port) ≡ (v .sink && passes m h w (v .word))
+    go none eo j ej = sym (none-open m h w eo a v e)
+    go (some u) eo Sound ej = one-port m h w u eo ej a v e
+    go (some u) eo (Bad wrong) ej = sym (ap (λ (b : Bool). v .sink && b) (unsound-passes m h w ej (v .word)) ∙ and-false (v .sink))
 
 -- What a bus event does to the areas is valid.
 pub valid-heard : (m : Areas) (h : Hearing) → length (h .words) ≡ 16 → (k : Kind) (x : Exchange) → Valid m (effectOf m (asHeard k x h) h)

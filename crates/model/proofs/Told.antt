@@ -20,7 +20,7 @@ step-told : (past : List Call) (c : Call) → Typed c → refusal c (after past)
 unfolding step
 step-told past (hear a b) ty r h = hear-told past a b ty h
 step-told past (quiet n) ty r h = quiet-told past n h
-step-told past (openPort b p code sink i) ty r h = open-told past b p code sink i r h
+step-told past (openPort b p code sink i limit) ty r h = open-told past b p code sink i limit r h
 step-told past (closePort b) ty r h = close-told past b r h
 step-told past (writePort b ws) ty r h = write-told past b ws r h
 step-told past (readPort b) ty r h = read-told past b h

@@ -11,7 +11,8 @@ use Rattle.model.specs.Past.{Opening, lastOf, fillings, toldView}
 
 -- an opened port that shows these words and has so many fills
 abbrev pub standingWith : Opening → Option (List ℕ) → ℕ → Standing
-standingWith o ws n = record { port = o .port; word = o .word; sink = o .sink; interrupt = o .interrupt; shows = ws; fills = n }
+standingWith o ws n =
+    record { port = o .port; word = o .word; sink = o .sink; interrupt = o .interrupt; shows = ws; fills = n; limit = o .limit }
 
 -- it shows the last of the words that filled it, and its fills are their number modulo 65,536
 abbrev pub toldStanding : List Call → ℕ → Option Opening → Option Standing

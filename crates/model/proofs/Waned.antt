@@ -20,10 +20,10 @@ use Rattle.model.specs.declared.Device.{Device}
 use Rattle.model.specs.Layout.{Areas, portAt}
 use Rattle.model.specs.Ports.{Effect, untouched, mark, markedWords, apply}
 use Rattle.model.specs.Event.{World, asMaster, asHeard, heard, heardBy, sinkFor, hearEffect}
-use Rattle.model.specs.Quiet.{sinceLater, expired, exchangeLater, due, effectLater, ticks, tick, tickEffect, tickController}
+use Rattle.model.specs.Quiet.{sinceLater, expired, exchangeLater, due, effectLater, pulseEffect, pulseController, pulse, pulses, ticks}
 use Rattle.model.specs.Calls.{Call, hear, effect, step}
 use Rattle.model.specs.Past.{after, Typed, Accepted, onTrusted, isSlave, awaited}
-use Rattle.model.specs.Taken.{Gentle, still, marks}
+use Rattle.model.specs.Taken.{Gentle, still, marks, ageless}
 use Rattle.model.specs.Damage.{harmless, Damaged, Damage}
 use Rattle.model.proofs.Shape.{Shape}
 use Rattle.model.proofs.Tables.{exchangeAfter, hear-controller, hear-effect}
@@ -35,7 +35,9 @@ use Rattle.model.proofs.Waits.{waitNow, Live, waits-now}
 use Rattle.model.proofs.Invariant.{one-of, ToldBy}
 use Rattle.model.proofs.Told.{past-told}
 use Rattle.model.proofs.Same.{Alike, same-port}
-use Rattle.model.proofs.Damage.{gentle-late, gentle-heard, Unharmed, kept-trans, kept-tick, kept-hear, kept-stretch, earlier}
+use Rattle.model.proofs.Gentle.{gentle-late, gentle-heard}
+use Rattle.model.proofs.Damage.{Unharmed, kept-trans, kept-pulse, kept-grown, kept-hear, kept-stretch, earlier}
+use Rattle.model.proofs.Grown.{grownBy, ticks-grown, grown-ages}
 use Rattle.model.proofs.Finishes.{portIn, sinkPort, missed-port, heard-port, waiting-told}
 
 -- the word that is waited for
@@ -63,11 +65,11 @@ gentle-same (mark q x) m p marks n = words-other (m .ports) q p (markedWords (po
 abbrev waitsAt : World → Option ℕ
 waitsAt s = sinkPort (s .areas) (waitWord (s .controller .exchange))
 
--- what a part of a stretch leaves: what is waited for stays or ends, and the words of any port but the waiting one are the same
+-- what a part of a stretch leaves: what is waited for stays or ends, and the words of any port but the waiting one are the same, age aside
 record Waned (u s : World) : Type 0 where
   kept : Unharmed u s
   wait : (waitWord (s .controller .exchange) ≡ waitWord (u .controller .exchange)) ⊎ (waitWord (s .controller .exchange) ≡ none)
-  same : (p : ℕ) → (waitsAt u ≡ some p → ⊥) → portAt (s .areas) p ≡ portAt (u .areas) p
+  same : (p : ℕ) → (waitsAt u ≡ some p → ⊥) → ageless (portAt (s .areas) p) ≡ ageless (portAt (u .areas) p)
 
 same-sink : (m n : Areas) → Alike m n → (o : Option ℕ) → sinkPort m o ≡ sinkPort n o
 same-sink m n k none = refl
@@ -116,23 +118,23 @@ late-port m (Waiting w) t p e = go (leb (t .adopted) (sinceLater t)) e
     go true i = sym (missed-port (sinkFor m w)) ∙ i
     go false i = absurd (nothing-there i)
 
-waned-tick : (s : World) → Shape (s .areas) → Waned s (tick s)
-unfolding tick tickController tickEffect
-waned-tick s h =
+waned-pulse : (s : World) → Shape (s .areas) → Waned s (pulse s)
+unfolding pulse pulseController pulseEffect
+waned-pulse s h =
     let x = s .controller .exchange in
     let t = s .controller .times in
     record {
-      kept = kept-tick s h;
+      kept = kept-pulse s h;
       wait = late-wait x t;
-      same = λ p n. gentle-same _ (s .areas) p (gentle-late (s .areas) (due s)) (λ e. n (late-port (s .areas) x t p e));
+      same = λ p n. ap ageless (gentle-same _ (s .areas) p (gentle-late (s .areas) (due s)) (λ e. n (late-port (s .areas) x t p e)));
     }
 
 waned-none : (s : World) → Unharmed s s → Waned s s
 waned-none s k = record { kept = k; wait = inl refl; same = λ p n. refl }
 
-waned-ticks : (n : ℕ) (s : World) → Shape (s .areas) → Waned s (ticks n s)
-unfolding ticks
-waned-ticks zero s h =
+waned-pulses : (n : ℕ) (s : World) → Shape (s .areas) → Waned s (pulses n s)
+unfolding pulses
+waned-pulses zero s h =
     waned-none s
     (record {
       areas = record { shape = h; shape′ = h; stands = λ a. refl };
@@ -140,9 +142,19 @@ waned-ticks zero s h =
       chosen = refl;
       device = refl;
     })
-waned-ticks (suc n) s h =
-    let k = waned-tick s h in
-    waned-trans s (tick s) (ticks n (tick s)) k (waned-ticks n (tick s) (k .kept .areas .shape))
+waned-pulses (suc n) s h =
+    let k = waned-pulse s h in
+    waned-trans s (pulse s) (pulses n (pulse s)) k (waned-pulses n (pulse s) (k .kept .areas .shape))
+
+waned-grown : (n : ℕ) (s : World) → Shape (s .areas) → Waned s (grownBy n s)
+unfolding grownBy
+waned-grown n s h = record { kept = kept-grown n s h; wait = inl refl; same = λ p x. grown-ages n s (h .fits) .ports p }
+
+waned-ticks : (n : ℕ) (s : World) → Shape (s .areas) → Waned s (ticks n s)
+waned-ticks n s h =
+    let k = waned-pulses n s h in
+    rw (ticks-grown n s (h .fits))
+    (waned-trans s (pulses n s) (grownBy n (pulses n s)) k (waned-grown n (pulses n s) (k .kept .areas .shape)))
 
 -- ---- a harmless event
 
@@ -180,9 +192,10 @@ waned-hear past a b ty h d =
     record {
       kept = kept-hear past a b ty h d;
       wait = rw (hear-controller s a b) (harmless-wait (c .device) (s .areas) k (k .kind) (c .exchange) (awaited past 0) f);
-      same = λ p n. gentle-same _ (s .areas) p g
+      same = λ p n. ap ageless
+          (gentle-same _ (s .areas) p g
           (λ e. n (ap (sinkPort (s .areas)) (sym (wait-word (c .exchange) (c .times) (h .holds .live)))
-          ∙ if-slave (k .kind) _ p (sym (ap portAffected (hear-effect s a b) ∙ heard-port (s .areas) k (k .kind) (c .exchange) (c .times) (h .holds .live)) ∙ e)));
+          ∙ if-slave (k .kind) _ p (sym (ap portAffected (hear-effect s a b) ∙ heard-port (s .areas) k (k .kind) (c .exchange) (c .times) (h .holds .live)) ∙ e))));
     }
 
 waned-call : (past : List Call) (c : Call) → Sort c → Typed c → ToldBy past (after past) → Damaged past c
@@ -200,7 +213,7 @@ waned-stretch before (c ∷ more) acc d =
     waned-trans _ _ _ (waned-stretch before more (acc .2) (d .1))
     (waned-call (more ++ before) c (sort c) (acc .0) (past-told (more ++ before) (acc .2)) (d .0))
 
--- A stretch of damage changes nothing in the areas but status bits of the port whose word was waited for at its start.
+-- A stretch of damage changes nothing in the areas but ages, and status bits of the port whose word was waited for at its start.
 pub stretch-but : (before stretch : List Call) → Accepted (stretch ++ before) → Damage before stretch
     → ButPort (waitingPort before) (after before .areas) (after (stretch ++ before) .areas)
 stretch-but before stretch acc d =

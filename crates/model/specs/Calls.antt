@@ -10,7 +10,7 @@ use lib.ListN.{length, replicate}
 use Rattle.frames.specs.declared.Hearing.{Hearing}
 use Rattle.frames.specs.Hearing.{inRange}
 use Rattle.model.specs.declared.Answer.{Answer}
-use Rattle.model.specs.declared.Answer.the-variants.{Never, Good, Held, Refused}
+use Rattle.model.specs.declared.Answer.the-variants.{Never, Good, Held, Stale, Refused}
 use Rattle.model.specs.declared.Heard.{Heard}
 use Rattle.model.specs.declared.Heard.the-variants.{Nothing, Unsound, Master, Reply, Stray}
 use Rattle.model.specs.Layout.{Areas, areas, stride, areasFit, entry, portAt, flagsOf}
@@ -26,7 +26,7 @@ pub data Call : Type 0 where
   -- n quiet bit times
   quiet : (n : ℕ) → Call
   -- the host's calls on ports; asking and fetching are one reading
-  openPort : (a p code : ℕ) (sink : Bool) (interrupt : ℕ) → Call
+  openPort : (a p code : ℕ) (sink : Bool) (interrupt limit : ℕ) → Call
   closePort : (a : ℕ) → Call
   writePort : (a : ℕ) (ws : List ℕ) → Call
   readPort : (a : ℕ) → Call
@@ -104,7 +104,7 @@ sizeTest m a ws = test wrongSize (not (eqb (length ws) (sizeOf (codeOf (portAt m
 abbrev pub atPort : Areas → ℕ → List Test → List Test
 atPort m a more = areaTest m ∷ rangeTest (ltb 4095 a) ∷ entryTest m (some a) ∷ noPortTest m a ∷ wordsTest m (some a) ∷ more
 
--- address 0 to 4095, port 1 to 255, F-code 0 to 4 and interrupt 0 to 7 on opening
+-- address 0 to 4095, port 1 to 255, F-code 0 to 4 and interrupt 0 to 7 on opening; a limit is any word
 abbrev pub openOut : ℕ → ℕ → ℕ → ℕ → Bool
 openOut a p code i = ltb 4095 a || eqb p 0 || ltb 255 p || ltb 4 code || ltb 7 i
 
@@ -129,7 +129,7 @@ wordOfHeard Stray = none
 abbrev pub tests : Call → World → List Test
 tests (hear a b) s = onBus (s .areas) (not (inRange a) || not (inRange b)) (wordOfHeard (heardBy (s .controller) a b))
 tests (quiet n) s = onBus (s .areas) (ltb 65535 n) (dueWithin n s)
-tests (openPort a p code sink i) s =
+tests (openPort a p code sink i limit) s =
     areaTest (s .areas) ∷ rangeTest (openOut a p code i) ∷ entryTest (s .areas) (some a) ∷ takenTest (s .areas) a p ∷ []
 tests (closePort a) s = atPort (s .areas) a []
 tests (writePort a ws) s = atPort (s .areas) a (sideTest (s .areas) a ∷ sizeTest (s .areas) a ws ∷ [])
@@ -160,7 +160,7 @@ pub data First : List Test → ℕ → Type 0 where
 unfoldable pub effect : Call → World → Effect
 effect (hear a b) s = hearEffect s a b
 effect (quiet n) s = untouched
-effect (openPort a p code sink i) s = opened a p code sink i
+effect (openPort a p code sink i limit) s = opened a p code sink i limit
 effect (closePort a) s = closed a (entry (s .areas) a)
 effect (writePort a ws) s = fill (entry (s .areas) a) ws
 effect (readPort a) s = untouched
@@ -170,7 +170,7 @@ effect (setting t) s = untouched
 unfoldable pub step : Call → World → World
 step (hear a b) s = world (hearController s a b) (apply (effect (hear a b) s) (s .areas))
 step (quiet n) s = ticks n s
-step (openPort a p code sink i) s = world (s .controller) (apply (effect (openPort a p code sink i) s) (s .areas))
+step (openPort a p code sink i limit) s = world (s .controller) (apply (effect (openPort a p code sink i limit) s) (s .areas))
 step (closePort a) s = world (s .controller) (apply (effect (closePort a) s) (s .areas))
 step (writePort a ws) s = world (s .controller) (apply (effect (writePort a ws) s) (s .areas))
 step (readPort a) s = s
@@ -180,7 +180,7 @@ step (setting t) s = world (tell t (s .controller)) (s .areas)
 unfoldable pub answer : Call → World → Option (List ℕ)
 answer (hear a b) s = hearAnswer s a b
 answer (quiet n) s = none
-answer (openPort a p code sink i) s = none
+answer (openPort a p code sink i limit) s = none
 answer (closePort a) s = none
 answer (writePort a ws) s = none
 answer (readPort a) s = none
@@ -215,16 +215,17 @@ portRefusal c m = refusal c (freshOver m)
 
 -- ---- reading
 
--- asking answers never, good, or held, or a refusal
+-- asking answers never, good, held or stale, or a refusal
 unfoldable pub asked : Areas → ℕ → Answer
 asked m a =
-    cond (eqb (portRefusal (readPort a) m) 0) (stateOf (flagsOf (portAt m (entry m a) .flags))) (Refused (portRefusal (readPort a) m))
+    cond (eqb (portRefusal (readPort a) m) 0) (stateOf (portAt m (entry m a))) (Refused (portRefusal (readPort a) m))
 
 -- document 01's number and word for each answer
 abbrev pub refusalOf : Answer → ℕ
 refusalOf Never = 0
 refusalOf Good = 0
 refusalOf Held = 0
+refusalOf Stale = 0
 refusalOf (Refused n) = n
 
 -- fetching hands back the port's own part of the valid page; it is empty exactly when asking refuses or answers never
@@ -232,6 +233,7 @@ abbrev pub partFor : Answer → List ℕ → List ℕ
 partFor Never ws = []
 partFor Good ws = ws
 partFor Held ws = ws
+partFor Stale ws = ws
 partFor (Refused n) ws = []
 
 unfoldable pub fetched : Areas → ℕ → List ℕ

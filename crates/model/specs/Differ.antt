@@ -1,6 +1,7 @@
 -- Document 01, "Damage, as demand 3 means it": what may differ after a stretch of damage, and until when. "Afterwards these may differ:
 -- status bits of the port then waiting until its next finished exchange, good against held, line state, counters, interrupts, status
--- poll replies. Host calls after it are the same in both runs." Pasts have the newest call first. Assumes nothing.
+-- poll replies. Host calls after it are the same in both runs." Document 02, W-205: "ages may change during damage and, with good against
+-- stale, differ after it". Pasts have the newest call first. Assumes nothing.
 use Prim.Native.Nat.{ℕ}
 use mathlib.Core.Path.{_≡_}
 use mathlib.Core.Bool.{Bool, true, false, cond, not, _&&_}
@@ -8,6 +9,8 @@ use mathlib.Core.List.{List, [], _∷_, _++_}
 use mathlib.Core.Option.{Option, none, some}
 use lib.Dec.{eqb}
 use Rattle.frames.specs.declared.Hearing.{Hearing}
+use Rattle.model.specs.declared.Answer.{Answer}
+use Rattle.model.specs.declared.Answer.the-variants.{Never, Good, Held, Stale, Refused}
 use Rattle.model.specs.Layout.{Areas, entry, portAt}
 use Rattle.model.specs.Ports.{codeOf, addressOf, hasPorts, view}
 use Rattle.model.specs.Event.{World}
@@ -15,7 +18,7 @@ use Rattle.model.specs.Quiet.{isSome}
 use Rattle.model.specs.Calls.{Call, hear, answer}
 use Rattle.model.specs.Past.{Change, keeps, opens, closes, writes, Happening, hears, passes, sets, changes, happening, onTrusted}
 use Rattle.model.specs.Past.{isSlave, firstWord, isWord, awaited, Opening, openingOf}
-use Rattle.model.specs.Taken.{OnlyStatus}
+use Rattle.model.specs.Taken.{ageless, StatusAndAges}
 use Rattle.model.specs.Damage.{SoundMaster, HeardAlike}
 
 -- ---- the calls after a stretch
@@ -85,14 +88,23 @@ doubtful past o (c ∷ calls) = remains (finishes (calls ++ past) c) (doubtful p
 
 -- ---- what may differ
 
--- n is m, but for status bits of the port at address o, if there is one
+-- n is m, but for ages, and for status bits of the port at address o, if there is one
 pub record ButStatus (o : Option ℕ) (m n : Areas) : Type 0 where
-  pub only : OnlyStatus m n
-  pub same : (p : ℕ) → ((a : ℕ) → o ≡ some a → entry m a ≡ p → ⊥) → portAt n p ≡ portAt m p
+  pub only : StatusAndAges m n
+  pub same : (p : ℕ) → ((a : ℕ) → o ≡ some a → entry m a ≡ p → ⊥) → ageless (portAt n p) ≡ ageless (portAt m p)
 
--- Two worlds that differ in no more than document 01 allows. The same are: exchange, the times with the chosen reply time, device address
--- and status word, the areas but for status bits of the port at address o, and the reply to every frame that both lines hear, status polls
--- aside. So good against held may differ at that address alone; lines, counts and the two interrupt groups may differ.
+-- an answer, good against stale aside
+abbrev pub staleAside : Answer → Answer
+staleAside Never = Never
+staleAside Good = Good
+staleAside Held = Held
+staleAside Stale = Good
+staleAside (Refused n) = Refused n
+
+-- Two worlds that differ in no more than documents 01 and 02 allow. The same are: exchange, the times with the chosen reply time, device
+-- address and status word, the areas but for ages and for status bits of the port at address o, and the reply to every frame that both lines
+-- hear, status polls aside. So held against good or stale may differ at that address alone, good against stale at any; lines, counts, the
+-- phase and the two interrupt groups may differ.
 pub record MayDiffer (o : Option ℕ) (u s : World) : Type 0 where
   pub exchange : s .controller .exchange ≡ u .controller .exchange
   pub times : s .controller .times ≡ u .controller .times

@@ -272,6 +272,7 @@ brought e c t o =
       group0 = raiseAll (e .raises) (c .group0);
       group1 = raiseAll (overflow (e .judged) (c .counts)) (c .group1);
       device = c .device;
+      phase = c .phase;
     }
 
 -- ---- the event: the trusted line is the one at its start

@@ -21,10 +21,10 @@ device a s w = record { address = a; set = s; status = w }
 abbrev pub counts : ℕ → ℕ → Counts
 counts f e = record { fc = f; ec = e }
 
--- fresh, the exchange is idle with all times and counts 0; the device address is first 0, and no status word is set
+-- fresh, the exchange is idle with all times and counts 0, the phase too; the device address is first 0, and no status word is set
 unfoldable pub freshController : Controller
 freshController =
-    controller Idle (times 0 0 firstReplyTime firstReplyTime) freshLines (counts 0 0) (fresh used0) (fresh used1) (device 0 false 0)
+    controller Idle (times 0 0 firstReplyTime firstReplyTime) freshLines (counts 0 0) (fresh used0) (fresh used1) (device 0 false 0) 0
 
 -- what the host sets, and its calls on the two interrupt groups
 pub data Setting : Type 0 where

@@ -1,5 +1,5 @@
 -- Document 01, "Memory lent to the calls": the four areas, and where a port's words and page words lie. Document 02, W-206: the marks of
--- the blocks in word 1. Assumes nothing.
+-- the blocks in word 1; W-205: the limit and the age of a port. Assumes nothing.
 use Prim.Native.Nat.{ℕ, _+_, _*_, _/_, _%_}
 use mathlib.Core.Bool.{Bool, true, false, _&&_}
 use mathlib.Core.List.{List}
@@ -20,11 +20,11 @@ pub record Areas : Type 0 where
 abbrev pub areas : List ℕ → List ℕ → List ℕ → List ℕ → Areas
 areas i p z o = record { index = i; ports = p; page0 = z; page1 = o }
 
--- the area of port words has four words for each of 256 ports
+-- the area of port words has eight words for each of 256 ports
 abbrev pub stride : ℕ
-stride = 4
+stride = 8
 
--- index table, 4096 words; port words, 1024; page 0 and page 1, 4096 each
+-- index table, 4096 words; port words, 2048; page 0 and page 1, 4096 each
 unfoldable pub areasFit : Areas → Bool
 areasFit m =
     eqb (length (m .index)) 4096 && eqb (length (m .ports)) (stride * 256) && eqb (length (m .page0)) 4096
@@ -38,7 +38,7 @@ entry m a = getD (m .index) a 0
 abbrev pub withEntry : Areas → ℕ → ℕ → Areas
 withEntry m a p = areas (set (m .index) a p) (m .ports) (m .page0) (m .page1)
 
--- ---- the four words of port p
+-- ---- the eight words of port p
 
 -- where they begin
 abbrev pub place : ℕ → ℕ
@@ -51,11 +51,16 @@ wordsAt l p =
       flags = getD l (place p + 1) 0;
       interrupt = getD l (place p + 2) 0;
       fills = getD l (place p + 3) 0;
+      limit = getD l (place p + 4) 0;
+      age = getD l (place p + 5) 0;
+      sixth = getD l (place p + 6) 0;
+      seventh = getD l (place p + 7) 0;
     }
 
 unfoldable pub withWords : List ℕ → ℕ → Words → List ℕ
 withWords l p w =
-    set (set (set (set l (place p) (w .master)) (place p + 1) (w .flags)) (place p + 2) (w .interrupt)) (place p + 3) (w .fills)
+    let half = set (set (set (set l (place p) (w .master)) (place p + 1) (w .flags)) (place p + 2) (w .interrupt)) (place p + 3) (w .fills) in
+    set (set (set (set half (place p + 4) (w .limit)) (place p + 5) (w .age)) (place p + 6) (w .sixth)) (place p + 7) (w .seventh)
 
 abbrev pub portAt : Areas → ℕ → Words
 portAt m p = wordsAt (m .ports) p

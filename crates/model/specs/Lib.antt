@@ -7,6 +7,8 @@ pub mod Quiet
 pub mod Host
 pub mod Calls
 pub mod Past
+pub mod StatusBits
+pub mod Age
 pub mod Taken
 pub mod Damage
 pub mod Differ

@@ -39,9 +39,10 @@ pub record Opening : Type 0 where
   pub word : ℕ
   pub sink : Bool
   pub interrupt : ℕ
+  pub limit : ℕ
 
-abbrev pub opening : ℕ → ℕ → ℕ → Bool → ℕ → Opening
-opening a p code sink i = record { port = p; word = masterWord code a; sink = sink; interrupt = i }
+abbrev pub opening : ℕ → ℕ → ℕ → Bool → ℕ → ℕ → Opening
+opening a p code sink i limit = record { port = p; word = masterWord code a; sink = sink; interrupt = i; limit = limit }
 
 -- what becomes of an address: nothing, it is opened anew, it is closed, or the host writes words to it
 pub data Change : Type 0 where
@@ -65,7 +66,7 @@ onlyAt b x a = cond (eqb b a) x keeps
 abbrev pub happening : Call → Happening
 happening (hear a b) = hears a b
 happening (quiet n) = passes n
-happening (openPort a p code sink i) = changes (onlyAt a (opens (opening a p code sink i)))
+happening (openPort a p code sink i limit) = changes (onlyAt a (opens (opening a p code sink i limit)))
 happening (closePort a) = changes (onlyAt a closes)
 happening (writePort a ws) = changes (onlyAt a (writes ws))
 happening (readPort a) = changes (λ b. keeps)
@@ -287,19 +288,19 @@ answers past a b w =
     let h = onTrusted past a b in
     isSlave (h .kind) && isWord (awaited past 0) w && isSound (judgedSlave (codeOf w) h)
 
--- an opening begins anew
-abbrev pub restarted : Change → List (List ℕ) → List (List ℕ)
-restarted keeps l = l
-restarted (opens x) l = []
-restarted closes l = l
-restarted (writes ws) l = l
+-- what is kept since an opening begins anew with it, as first
+abbrev pub anew : {A : Type 0} → A → Change → A → A
+anew first keeps x = x
+anew first (opens o) x = first
+anew first closes x = x
+anew first (writes ws) x = x
 
 -- a sound answer to w is added
 abbrev pub answeredBy : List Call → ℕ → ℕ → Happening → List (List ℕ) → List (List ℕ)
 answeredBy past a w (hears x y) l = cond (answers past x y w) (wordsOf (onTrusted past x y) ∷ l) l
 answeredBy past a w (passes n) l = l
 answeredBy past a w (sets t) l = l
-answeredBy past a w (changes f) l = restarted (f a) l
+answeredBy past a w (changes f) l = anew [] (f a) l
 
 -- the words of the sound slave frames that answered the master word w since address a was opened, the newest first
 unfoldable pub answersSince : List Call → ℕ → ℕ → List (List ℕ)
@@ -314,7 +315,7 @@ fillings past a o = cond (o .sink) (answersSince past a (o .word)) (writesSince 
 
 -- what an opened port shows, with these words and so many fills
 abbrev pub viewWith : Opening → Option (List ℕ) → ℕ → View
-viewWith o ws n = record { word = o .word; sink = o .sink; interrupt = o .interrupt; shows = ws; fills = n }
+viewWith o ws n = record { word = o .word; sink = o .sink; interrupt = o .interrupt; shows = ws; fills = n; limit = o .limit }
 
 -- it shows the last of the words that filled it, and its fills are their number modulo 65,536
 abbrev pub toldView : List Call → ℕ → Option Opening → Option View

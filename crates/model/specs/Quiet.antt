@@ -1,4 +1,5 @@
--- Document 01, "Quiet time": one quiet bit time, in the stated order, and n of them. Assumes nothing.
+-- Document 01, "Quiet time": one quiet bit time, in the stated order, and n of them. Document 02, W-205: every 1500 of them since reset add
+-- one to the age of each open sink. Assumes nothing.
 use Prim.Native.Nat.{ℕ, zero, suc, _+_}
 use mathlib.Core.Bool.{Bool, true, false, cond, not, _&&_}
 use mathlib.Core.List.{_++_}
@@ -11,9 +12,9 @@ use Rattle.model.specs.declared.Times.{Times}
 use Rattle.model.specs.declared.Lines.{Lines}
 use Rattle.model.specs.declared.Controller.{Controller}
 use Rattle.model.specs.Layout.{Areas}
-use Rattle.model.specs.Ports.{codeOf, Standing, Effect, untouched, mark, replyMissing, apply}
+use Rattle.model.specs.Ports.{codeOf, Standing, aged, Effect, untouched, mark, replyMissing, apply}
 use Rattle.model.specs.Lines.{exempt, rule1, rule2, rule5}
-use Rattle.model.specs.Parts.{withExchange, withTimes, withLines, withGroup0}
+use Rattle.model.specs.Parts.{withExchange, withTimes, withLines, withGroup0, withPhase}
 use Rattle.model.specs.Event.{World, world, sinkFor, raiseAll, when}
 
 -- 1950 and 2130 bit times are 1.30 and 1.42 ms
@@ -22,6 +23,10 @@ busTimeout = 1950
 
 abbrev pub lineTimeout : ℕ
 lineTimeout = 2130
+
+-- a millisecond is 1500
+abbrev pub millisecond : ℕ
+millisecond = 1500
 
 -- initially 64
 abbrev pub firstReplyTime : ℕ
@@ -81,26 +86,49 @@ abbrev pub effectLater : Areas → Option ℕ → Effect
 effectLater m none = untouched
 effectLater m (some w) = missed (sinkFor m w)
 
--- ---- one quiet bit time
+-- ---- the rules of document 01 in one quiet bit time
 
 abbrev pub due : World → Option ℕ
 due s = expired (s .controller .exchange) (s .controller .times)
 
-unfoldable pub tickEffect : World → Effect
-tickEffect s = effectLater (s .areas) (due s)
+unfoldable pub pulseEffect : World → Effect
+pulseEffect s = effectLater (s .areas) (due s)
 
-unfoldable pub tickController : World → Controller
-tickController s =
+unfoldable pub pulseController : World → Controller
+pulseController s =
     let c = s .controller in
     withExchange (exchangeLater (c .exchange) (due s))
     (withTimes (timesLater (c .times))
     (withLines (linesLater (c .lines) (due s) (lineSilent (c .times)))
     (withGroup0 (raiseAll (when (isSome (due s)) RTI ++ when (busSilent (c .times)) BTI) (c .group0)) c)))
 
-unfoldable pub tick : World → World
-tick s = world (tickController s) (apply (tickEffect s) (s .areas))
+unfoldable pub pulse : World → World
+pulse s = world (pulseController s) (apply (pulseEffect s) (s .areas))
 
--- n of them
+-- n times
+unfoldable pub pulses : ℕ → World → World
+pulses zero s = s
+pulses (suc n) s = pulses n (pulse s)
+
+-- ---- its end: the phase is the quiet bit times since reset, and restarts with each millisecond
+
+-- a millisecond ends with this bit time
+abbrev pub millisecondEnds : World → Bool
+millisecondEnds s = leb millisecond (s .controller .phase + 1)
+
+-- then each open sink is a millisecond older
+abbrev pub grownIf : Bool → World → World
+grownIf true s = world (withPhase 0 (s .controller)) (aged 1 (s .areas))
+grownIf false s = world (withPhase (s .controller .phase + 1) (s .controller)) (s .areas)
+
+unfoldable pub grown : World → World
+grown s = grownIf (millisecondEnds s) s
+
+-- ---- one quiet bit time, and n of them
+
+unfoldable pub tick : World → World
+tick s = grown (pulse s)
+
 unfoldable pub ticks : ℕ → World → World
 ticks zero s = s
 ticks (suc n) s = ticks n (tick s)
@@ -108,7 +136,7 @@ ticks (suc n) s = ticks n (tick s)
 -- the master word whose reply time is reached within n bit times, if one is
 unfoldable pub dueWithin : ℕ → World → Option ℕ
 dueWithin zero s = none
-dueWithin (suc n) s = first (due s) (dueWithin n (tick s))
+dueWithin (suc n) s = first (due s) (dueWithin n (pulse s))
   where
     first : Option ℕ → Option ℕ → Option ℕ
     first none o = o

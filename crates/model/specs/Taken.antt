@@ -5,13 +5,15 @@ use mathlib.Core.Path.{_≡_}
 use mathlib.Core.Logic.{_⊎_}
 use mathlib.Core.Bool.{Bool, true, false, _&&_}
 use mathlib.Core.Option.{some}
+use lib.ListN.{length}
 use Rattle.frames.specs.declared.Hearing.{Hearing}
 use Rattle.frames.specs.Hearing.{wordsOf}
 use Rattle.frames.specs.Judge.{judgedSlave, isSound}
 use Rattle.model.specs.declared.Controller.{Controller}
+use Rattle.model.specs.declared.Words.{Words}
 use Rattle.model.specs.declared.Faults.{Faults}
 use Rattle.model.specs.Layout.{Areas, portAt}
-use Rattle.model.specs.Ports.{codeOf, Standing, standing, markedWords, Effect, untouched, fill, mark}
+use Rattle.model.specs.Ports.{codeOf, Standing, standing, markedWords, withAge, Effect, untouched, fill, mark}
 use Rattle.model.specs.Lines.{trusted}
 use Rattle.model.specs.Event.{waitsFor}
 use Rattle.model.specs.Past.{isSlave}
@@ -27,12 +29,33 @@ pub data Gentle : Effect → Type 0 where
   still : Gentle untouched
   marks : {p : ℕ} {x : Faults} → Gentle (mark p x)
 
--- n is m but for status bits: index table and pages are the same, and of each port's words only the status bits may differ
-pub record OnlyStatus (m n : Areas) : Type 0 where
+-- n is m but for status bits, and for what f leaves out of port words: index table and pages are the same, and in what f keeps of each
+-- port's words only the status bits may differ
+pub record ButStatusIn (f : Words → Words) (m n : Areas) : Type 0 where
   pub index : n .index ≡ m .index
   pub page0 : n .page0 ≡ m .page0
   pub page1 : n .page1 ≡ m .page1
-  pub ports : (p : ℕ) → (portAt n p ≡ portAt m p) ⊎ ((x : Faults) × (portAt n p ≡ markedWords (portAt m p) x))
+  pub ports : (p : ℕ) → (f (portAt n p) ≡ f (portAt m p)) ⊎ ((x : Faults) × (f (portAt n p) ≡ markedWords (f (portAt m p)) x))
+
+-- n is m but for status bits
+abbrev pub OnlyStatus : Areas → Areas → Type 0
+OnlyStatus m n = ButStatusIn (λ w. w) m n
+
+-- port words whatever their age
+abbrev pub ageless : Words → Words
+ageless w = withAge 0 w
+
+-- n is m but for ages
+pub record ButAges (m n : Areas) : Type 0 where
+  pub index : n .index ≡ m .index
+  pub long : length (n .ports) ≡ length (m .ports)
+  pub ports : (p : ℕ) → ageless (portAt n p) ≡ ageless (portAt m p)
+  pub page0 : n .page0 ≡ m .page0
+  pub page1 : n .page1 ≡ m .page1
+
+-- n is m but for status bits and ages
+abbrev pub StatusAndAges : Areas → Areas → Type 0
+StatusAndAges m n = ButStatusIn ageless m n
 
 -- What an event that heard h does, if f tells the master words that it answers soundly: it fills the open sink whose word is answered; or no
 -- open sink's is, and it changes status bits alone.

@@ -53,14 +53,21 @@ pub struct Controller {
     pub group0: Group,
     pub group1: Group,
     pub device: Device,
+    // The quiet bit times of the millisecond that runs; milliseconds are counted from reset on, and no frame restarts one.
+    pub phase: u16,
 }
 
-// The four words of a port: its master word, its flags, its data transfer interrupt or 0, and its fills.
+// The eight words of a port: its master word, its flags, its data transfer interrupt or 0, its fills, its limit in milliseconds or 0
+// where it is not supervised, its age in milliseconds, and two that are zero.
 pub struct Words {
     pub master: u16,
     pub flags: u16,
     pub interrupt: u16,
     pub fills: u16,
+    pub limit: u16,
+    pub age: u16,
+    pub sixth: u16,
+    pub seventh: u16,
 }
 
 // The status bits of a port's flags; the marks of the blocks are among them.
@@ -94,6 +101,7 @@ pub enum Answer {
     Never,
     Good,
     Held,
+    Stale,
     Refused(u16),
 }
 

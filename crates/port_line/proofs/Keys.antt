@@ -55,7 +55,7 @@ module _ (good : Bool) (s : State) where
 
   -- a port number opens the port where one is due
   pub index-given : (n : ℕ) → meaning (given good (index n)) s
-      ≡ cond (good && eqb (u .stage) 3) (hosted (openPort (u .addr) n (u .code) (u .sink) 0) 0 s) (misplaced s)
+      ≡ cond (good && eqb (u .stage) 3) (hosted (openPort (u .addr) n (u .code) (u .sink) 0 0) 0 s) (misplaced s)
   unfolding meaning
   index-given n = given-placed good _ (index n) s _ refl
 

@@ -79,7 +79,7 @@ meaning (addr n) s = describes (eqb (s .setup .stage) 0) (setup 1 n (s .setup .c
 meaning (fcode n) s = describes (eqb (s .setup .stage) 1) (setup 2 (s .setup .addr) n (s .setup .sink)) s
 meaning (dir b) s = describes (eqb (s .setup .stage) 2) (setup 3 (s .setup .addr) (s .setup .code) b) s
 meaning (index n) s =
-    cond (eqb (s .setup .stage) 3) (hosted (openPort (s .setup .addr) n (s .setup .code) (s .setup .sink) 0) 0 s) (misplaced s)
+    cond (eqb (s .setup .stage) 3) (hosted (openPort (s .setup .addr) n (s .setup .code) (s .setup .sink) 0 0) 0 s) (misplaced s)
 meaning (frame h) s = cond (whole (s .setup)) (answered (outcome (hear h h) (s .world)) (s .setup)) (misplaced s)
 meaning (quietLine n) s = cond (whole (s .setup)) (answered (outcome (quiet n) (s .world)) (s .setup)) (misplaced s)
 meaning (write a ws) s = cond (whole (s .setup)) (hosted (writePort a ws) 4 s) (misplaced s)

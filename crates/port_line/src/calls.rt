@@ -130,7 +130,7 @@ pub(crate) fn set_dir(s: Stepped, sink: bool) -> Stepped
     describe(u.stage == DIRECTION, s, v)
 }
 
-// The fourth line opens the port, without a data transfer interrupt.
+// The fourth line opens the port, without a data transfer interrupt, and not supervised.
 pub(crate) fn open(
     index: &mut [u16],
     ports: &mut [u16],
@@ -157,6 +157,7 @@ pub(crate) fn open(
             read::word(n.value),
             u.code,
             u.sink,
+            0,
             0,
         );
         let mut r = s;

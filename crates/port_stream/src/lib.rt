@@ -210,7 +210,7 @@ fn end(
 // 180 bytes.
 pub fn serve(input: i32, output: i32) {
     let mut index = [0u16; 4096];
-    let mut ports = [0u16; 1024];
+    let mut ports = [0u16; 2048];
     let mut page0 = [0u16; 4096];
     let mut page1 = [0u16; 4096];
     let mut line = [0u8; 1024];

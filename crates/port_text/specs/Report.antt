@@ -13,12 +13,12 @@ use Rattle.frames.specs.declared.Hearing.{Hearing}
 use Rattle.frames.specs.Hearing.{wordsOf}
 use Rattle.model.specs.declared.Faults.{Faults}
 use Rattle.model.specs.declared.Answer.{Answer}
-use Rattle.model.specs.declared.Answer.the-variants.{Never, Good, Held, Refused}
+use Rattle.model.specs.declared.Answer.the-variants.{Never, Good, Held, Stale, Refused}
 use Rattle.model.specs.Layout.{Areas, entry, portAt, flagsOf, marksNumber}
 use Rattle.model.specs.Ports.{codeOf}
 use Rattle.model.specs.Calls.{asked, fetched}
 use Rattle.port_text.specs.Words.{wAddr, wFcode, wDir, wIndex, wState, wFills, wBlocks, wData, wReply, wRefused}
-use Rattle.port_text.specs.Words.{wSink, wSource, wNever, wGood, wHeld, wNone}
+use Rattle.port_text.specs.Words.{wSink, wSource, wNever, wGood, wHeld, wStale, wNone}
 
 -- `key=`, before a value
 abbrev pub keyText : List ℕ → List ℕ
@@ -32,11 +32,12 @@ lineText key value = keyText key ++ value ++ (newline ∷ [])
 abbrev pub dirText : Bool → List ℕ
 dirText sink = cond sink wSink wSource
 
--- `state` never, good or held; an open port is never refused
+-- `state` never, good, held or stale; an open port is never refused
 abbrev pub stateText : Answer → List ℕ
 stateText Never = wNever
 stateText Good = wGood
 stateText Held = wHeld
+stateText Stale = wStale
 stateText (Refused n) = []
 
 -- `data` the words, or the word none when never
@@ -44,6 +45,7 @@ abbrev pub dataText : Answer → List ℕ → List ℕ
 dataText Never ws = wNone
 dataText Good ws = commas ws
 dataText Held ws = commas ws
+dataText Stale ws = commas ws
 dataText (Refused n) ws = commas ws
 
 -- `blocks` the marks as a number

@@ -45,6 +45,9 @@ wGood = 103 ∷ 111 ∷ 111 ∷ 100 ∷ []  -- good
 abbrev pub wHeld : List ℕ
 wHeld = 104 ∷ 101 ∷ 108 ∷ 100 ∷ []  -- held
 
+abbrev pub wStale : List ℕ
+wStale = 115 ∷ 116 ∷ 97 ∷ 108 ∷ 101 ∷ []  -- stale
+
 abbrev pub wNone : List ℕ
 wNone = 110 ∷ 111 ∷ 110 ∷ 101 ∷ []  -- none
 

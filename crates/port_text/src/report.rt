@@ -22,7 +22,7 @@ fn put_dir(out: &mut [u8], at: usize, sink: bool) -> usize
     say::put_line(out, at, b"dir", b"source")
 }
 
-// `state` never, good or held.
+// `state` never, good, held or stale.
 fn put_state(out: &mut [u8], at: usize, x: Answer) -> usize
     ensures { λ r. ⌜ paper (now (out .exit)) r ≡ onto (paper (now (out .entry)) at) (lineText wState (stateText x)) ⌝ }
 {
@@ -30,6 +30,7 @@ fn put_state(out: &mut [u8], at: usize, x: Answer) -> usize
         Answer::Never => say::put_line(out, at, b"state", b"never"),
         Answer::Good => say::put_line(out, at, b"state", b"good"),
         Answer::Held => say::put_line(out, at, b"state", b"held"),
+        Answer::Stale => say::put_line(out, at, b"state", b"stale"),
         Answer::Refused(_) => say::put_line(out, at, b"state", b""),
     }
 }
@@ -42,6 +43,7 @@ fn put_data(out: &mut [u8], at: usize, x: Answer, ws: &[u16]) -> usize
         Answer::Never => say::put_line(out, at, b"data", b"none"),
         Answer::Good => say::put_listed(out, at, b"data", ws),
         Answer::Held => say::put_listed(out, at, b"data", ws),
+        Answer::Stale => say::put_listed(out, at, b"data", ws),
         Answer::Refused(_) => say::put_listed(out, at, b"data", ws),
     }
 }

@@ -1,6 +1,7 @@
 -- The port program by its past: the accepted calls that the lines of an input make, and what document 01's demands 2 and 3 say of its output
 -- by these calls alone. Assumes nothing.
 use Prim.Native.Nat.{ℕ, zero, suc, _%_}
+use mathlib.Core.Path.{_≡_}
 use mathlib.Core.Bool.{Bool, false, cond}
 use mathlib.Core.List.{List, [], _∷_, _++_}
 use mathlib.Core.Option.{Option, none, some}
@@ -8,11 +9,11 @@ use lib.Dec.{eqb}
 use lib.ListN.{length}
 use Rattle.port_digits.specs.Write.{decimal, commas}
 use Rattle.model.specs.declared.Faults.{Faults}
-use Rattle.model.specs.Layout.{Areas, entry, portAt, flagsOf}
 use Rattle.model.specs.Ports.{codeOf, isHeld}
 use Rattle.model.specs.Event.{spoken}
 use Rattle.model.specs.Calls.{Call, hear, quiet, openPort, writePort, refusal}
 use Rattle.model.specs.Past.{after, Opening, openingOf, Happening, hears, passes, sets, changes, happening, replyIn, lastOf, fillings}
+use Rattle.model.specs.StatusBits.{faultsTold}
 use Rattle.port_text.specs.Words.{wState, wFills, wBlocks, wData, wNever, wGood, wHeld, wNone}
 use Rattle.port_text.specs.Report.{lineText, blocksText, setupText, refusedText, replyText}
 use Rattle.port_text.specs.Line.{Line, addr, fcode, index, dir, frame, quiet as quietLine, write, malformed}
@@ -22,13 +23,13 @@ use Rattle.port_run.specs.Printed.{textLines, longest, lineIn}
 
 -- ---- the calls that the lines make
 
--- the call that a line makes, by the setup lines before it: the fourth opens the port that they describe, without a transfer interrupt; an
--- event is heard alike on both lines
+-- the call that a line makes, by the setup lines before it: the fourth opens the port that they describe, without a transfer interrupt and
+-- with the limit 0; an event is heard alike on both lines
 abbrev pub callIn : Line → Setup → Option Call
 callIn (addr n) u = none
 callIn (fcode n) u = none
 callIn (dir sink) u = none
-callIn (index n) u = some (openPort (u .addr) n (u .code) (u .sink) 0)
+callIn (index n) u = some (openPort (u .addr) n (u .code) (u .sink) 0 0)
 callIn (frame h) u = some (hear h h)
 callIn (quietLine n) u = some (quiet n)
 callIn (write a ws) u = some (writePort a ws)
@@ -91,11 +92,11 @@ courseFrom room (t ∷ ts) u past =
 unfoldable pub courseOf : List ℕ → Course
 courseOf t = courseFrom longest (textLines t) freshSetup []
 
--- ---- what the past tells of a port
+-- no port that stands open is supervised, so none is stale
+abbrev pub Unsupervised : List Call → Type 0
+Unsupervised past = (a : ℕ) (o : Opening) → openingOf past a ≡ some o → o .limit ≡ 0
 
--- the status bits of the port at address a
-abbrev pub faultsIn : Areas → ℕ → Faults
-faultsIn m a = flagsOf (portAt m (entry m a) .flags) .faults
+-- ---- what the past tells of a port
 
 -- `state` is never where no words filled the port, and good or held where some did; of these two the status bits decide
 abbrev pub stateTold : Bool → Option (List ℕ) → List ℕ
@@ -107,22 +108,22 @@ abbrev pub dataTold : Option (List ℕ) → List ℕ
 dataTold none = wNone
 dataTold (some ws) = commas ws
 
--- the eight lines of a port that was opened at address a and then filled with these words, the newest first; good or held, and `blocks`, go by
--- its status bits
+-- the eight lines of a port with these status bits that was opened at address a and then filled with these words, the newest first; good or
+-- held, and `blocks`, go by the status bits
 unfoldable pub linesTold : Faults → ℕ → Opening → List (List ℕ) → List ℕ
 linesTold f a o filled =
     setupText a (codeOf (o .word)) (o .sink) (o .port) ++ lineText wState (stateTold (isHeld f) (lastOf filled))
     ++ lineText wFills (decimal (length filled % 65536)) ++ lineText wBlocks (blocksText f) ++ lineText wData (dataTold (lastOf filled))
 
 -- of an address where nothing was opened, or what was is closed, nothing
-abbrev pub portTold : List Call → Faults → ℕ → Option Opening → List ℕ
-portTold past f a none = []
-portTold past f a (some o) = linesTold f a o (fillings past a o)
+abbrev pub portTold : List Call → ℕ → Option Opening → List ℕ
+portTold past a none = []
+portTold past a (some o) = linesTold (faultsTold past a o) a o (fillings past a o)
 
 -- the ports below an address, by rising address
 unfoldable pub toldBelow : List Call → ℕ → List ℕ
 toldBelow past zero = []
-toldBelow past (suc a) = toldBelow past a ++ portTold past (faultsIn (after past .areas) a) a (openingOf past a)
+toldBelow past (suc a) = toldBelow past a ++ portTold past a (openingOf past a)
 
 -- all open ports
 unfoldable pub reportTold : List Call → List ℕ

@@ -117,7 +117,7 @@ fn a_filled_source_replies() {
 #[test]
 fn a_source_of_sixteen_words_has_four_check_bytes() {
     let mut w = World::new();
-    open(&mut w.areas, 9, 9, 4, false, 0);
+    open(&mut w.areas, 9, 9, 4, false, 0, 0);
     let words: Vec<u16> = (1..17).collect();
     write(&mut w.areas, 9, &words);
     let checks: Vec<u8> = words.chunks(4).map(check_byte).collect();
@@ -178,9 +178,9 @@ fn an_unsound_slave_changes_status_bits_alone() {
     for (heard, bits) in cases {
         for before in [SINK | STATUS_BITS, SINK | EVER | VP | STO, SINK] {
             let mut w = World::with_ports();
-            w.areas.ports[5] = before;
+            w.areas.ports[1 * WORDS + 1] = before;
             let mut expected = w.areas.clone();
-            expected.ports[5] = before & !STATUS_BITS | bits;
+            expected.ports[1 * WORDS + 1] = before & !STATUS_BITS | bits;
             w.both(master(1));
             w.both(heard);
             assert_eq!((w.c.exchange, w.seen()), (Exchange::Done, SFC | ESF));
@@ -199,7 +199,7 @@ fn the_wrong_blocks_are_marked() {
             heard.checks[k] ^= (marks >> k & 1) as u8;
         }
         let mut w = World::with_ports();
-        open(&mut w.areas, 9, 9, 4, true, 0);
+        open(&mut w.areas, 9, 9, 4, true, 0, 0);
         w.both(master(0x4009));
         w.both(heard);
         let crc = if marks == 0 { 0 } else { CRC };
@@ -229,7 +229,7 @@ fn a_sound_slave_clears_the_status_bits() {
 #[test]
 fn the_slave_is_sized_by_the_waiting_f_code() {
     let mut w = World::new();
-    open(&mut w.areas, 3, 3, 1, true, 0);
+    open(&mut w.areas, 3, 3, 1, true, 0, 0);
     w.both(master(0x1003));
     w.both(Hearing::of(Kind::Slave, &[1], &[0x34])); // its own length would do
     assert_eq!((w.word1(3), w.fills(3)), (SINK | TERR, 0));
@@ -257,7 +257,7 @@ fn the_address_now_has_a_sink() {
     let mut w = World::with_ports();
     close(&mut w.areas, 1);
     w.both(master(1));
-    open(&mut w.areas, 1, 4, 0, true, 0);
+    open(&mut w.areas, 1, 4, 0, true, 0, 0);
     w.both(slave(&[5]));
     assert_eq!((fetch(&w.areas, 1), w.seen()), (vec![5], SFC));
     w.both(master(1));
@@ -362,7 +362,7 @@ fn damage_is_met_only_where_the_port_is_needed() {
     let mut w = World::with_ports();
     w.areas.index[3] = 256;
     w.areas.index[4] = 1; // port 1 carries address 1
-    w.areas.ports[10] = 8; // interrupt of port 2
+    w.areas.ports[2 * WORDS + 2] = 8; // interrupt of port 2
     for word in [0x0003, 0x4003, 0x0004, 0x2002, 0x0002] {
         w.refused(master(word), silence(), DAMAGED);
     }
@@ -378,7 +378,7 @@ fn damage_is_met_only_where_the_port_is_needed() {
 fn damage_when_a_slave_is_judged() {
     let mut w = World::with_ports();
     w.both(master(1));
-    w.areas.ports[5] = 0;
+    w.areas.ports[1 * WORDS + 1] = 0;
     w.refused(slave(&[5]), slave(&[5]), DAMAGED);
     w.refused(bad_check(slave(&[5])), silence(), DAMAGED);
     w.areas.index[1] = 0;
@@ -389,7 +389,7 @@ fn damage_when_a_slave_is_judged() {
 #[test]
 fn entry_zero_is_no_refusal_to_the_bus() {
     let mut w = World::new();
-    w.areas.ports[0..4].copy_from_slice(&[0x0007, SRC | EVER, 0, 0]);
+    w.areas.ports[0 * WORDS..0 * WORDS + 4].copy_from_slice(&[0x0007, SRC | EVER, 0, 0]);
     assert_eq!(w.both(master(7)), None);
     w.both(slave(&[5]));
     assert_eq!((w.c.exchange, w.seen()), (Exchange::Done, SFC));

@@ -6,7 +6,7 @@ type Change = fn(&mut Areas);
 /// The four ways an area can have another length.
 const LENGTHS: [Change; 4] = [
     |areas| areas.index.push(0),
-    |areas| areas.ports.truncate(1023),
+    |areas| areas.ports.truncate(2047),
     |areas| areas.page0.clear(),
     |areas| areas.page1.push(0),
 ];
@@ -14,7 +14,7 @@ const LENGTHS: [Change; 4] = [
 /// All host calls on address a refuse so; opening has another number. Nothing changes.
 fn all_refuse(areas: &Areas, a: u16, refusal: u16, opening: u16) {
     let mut later = areas.clone();
-    assert_eq!(open(&mut later, a, 9, 0, true, 0), opening);
+    assert_eq!(open(&mut later, a, 9, 0, true, 0, 0), opening);
     assert_eq!(close(&mut later, a), refusal);
     assert_eq!(write(&mut later, a, &[0]), refusal);
     assert_eq!(ask(&later, a), Answer::Refused(refusal));
@@ -25,19 +25,19 @@ fn all_refuse(areas: &Areas, a: u16, refusal: u16, opening: u16) {
 #[test]
 fn opening_sets_entry_and_words() {
     let mut areas = Areas::zero();
-    areas.ports[20..24].copy_from_slice(&[0xFFFF, 0, 0xFFFF, 0xFFFF]);
+    areas.ports[5 * WORDS..5 * WORDS + 4].copy_from_slice(&[0xFFFF, 0, 0xFFFF, 0xFFFF]);
     let mut expected = areas.clone();
-    assert_eq!(open(&mut areas, 0x123, 5, 3, true, 7), 0);
+    assert_eq!(open(&mut areas, 0x123, 5, 3, true, 7, 0), 0);
     expected.index[0x123] = 5;
-    expected.ports[20..24].copy_from_slice(&[0x3123, SINK, 7, 0]);
+    expected.ports[5 * WORDS..5 * WORDS + 4].copy_from_slice(&[0x3123, SINK, 7, 0]);
     assert_eq!(areas, expected);
 }
 
 #[test]
 fn opening_a_source() {
     let mut areas = Areas::zero();
-    assert_eq!(open(&mut areas, 0, 1, 4, false, 0), 0);
-    assert_eq!(areas.ports[4..8], [0x4000, SRC, 0, 0]);
+    assert_eq!(open(&mut areas, 0, 1, 4, false, 0, 0), 0);
+    assert_eq!(areas.ports[1 * WORDS..1 * WORDS + 4], [0x4000, SRC, 0, 0]);
     assert_eq!(ask(&areas, 0), Answer::Never);
     assert_eq!(fetch(&areas, 0), []);
 }
@@ -45,14 +45,14 @@ fn opening_a_source() {
 #[test]
 fn ranges_of_opening() {
     let mut areas = Areas::zero();
-    assert_eq!(open(&mut areas, 4095, 1, 0, true, 0), 0);
-    assert_eq!(open(&mut areas, 4096, 2, 0, true, 0), RANGE);
-    assert_eq!(open(&mut areas, 1, 255, 0, true, 0), 0);
-    assert_eq!(open(&mut areas, 2, 0, 0, true, 0), RANGE);
-    assert_eq!(open(&mut areas, 2, 256, 0, true, 0), RANGE);
-    assert_eq!(open(&mut areas, 2, 2, 5, true, 0), RANGE);
-    assert_eq!(open(&mut areas, 2, 2, 4, true, 8), RANGE);
-    assert_eq!(open(&mut areas, 2, 2, 4, true, 7), 0);
+    assert_eq!(open(&mut areas, 4095, 1, 0, true, 0, 0), 0);
+    assert_eq!(open(&mut areas, 4096, 2, 0, true, 0, 0), RANGE);
+    assert_eq!(open(&mut areas, 1, 255, 0, true, 0, 0), 0);
+    assert_eq!(open(&mut areas, 2, 0, 0, true, 0, 0), RANGE);
+    assert_eq!(open(&mut areas, 2, 256, 0, true, 0, 0), RANGE);
+    assert_eq!(open(&mut areas, 2, 2, 5, true, 0, 0), RANGE);
+    assert_eq!(open(&mut areas, 2, 2, 4, true, 8, 0), RANGE);
+    assert_eq!(open(&mut areas, 2, 2, 4, true, 7, 0), 0);
 }
 
 #[test]
@@ -71,13 +71,13 @@ fn range_comes_second() {
     areas.index.fill(0xFFFF);
     all_refuse(&areas, 4096, RANGE, RANGE);
     all_refuse(&areas, 65_535, RANGE, RANGE);
-    assert_eq!(open(&mut areas, 0, 0, 0, true, 0), RANGE);
+    assert_eq!(open(&mut areas, 0, 0, 0, true, 0, 0), RANGE);
 }
 
 #[test]
 fn an_entry_above_255_is_damage() {
     let mut areas = Areas::zero();
-    areas.ports[9 * 4 + 1] = 1; // opening port 9 would be TAKEN, but 6 comes before
+    areas.ports[9 * WORDS + 1] = 1; // opening port 9 would be TAKEN, but 6 comes before
     for entry in [256, 0xFFFF] {
         areas.index[7] = entry;
         all_refuse(&areas, 7, DAMAGED, DAMAGED);
@@ -87,26 +87,26 @@ fn an_entry_above_255_is_damage() {
 #[test]
 fn entry_zero_is_noport() {
     let mut areas = Areas::zero();
-    areas.ports[0..4].copy_from_slice(&[0x0007, SINK, 0, 0]); // port 0 is never used
-    areas.ports[9 * 4 + 1] = 0x8000;
+    areas.ports[0 * WORDS..0 * WORDS + 4].copy_from_slice(&[0x0007, SINK, 0, 0]); // port 0 is never used
+    areas.ports[9 * WORDS + 1] = 0x8000;
     all_refuse(&areas, 7, NOPORT, TAKEN);
 }
 
 #[test]
 fn taken_by_the_address_or_by_the_port() {
     let mut w = World::with_ports();
-    assert_eq!(open(&mut w.areas, 1, 9, 0, true, 0), TAKEN);
-    assert_eq!(open(&mut w.areas, 9, 1, 0, true, 0), TAKEN);
-    w.areas.ports[9 * 4 + 3] = 77; // only word 1 counts
-    w.areas.ports[9 * 4 + 2] = 77;
-    assert_eq!(open(&mut w.areas, 9, 9, 0, true, 0), 0);
+    assert_eq!(open(&mut w.areas, 1, 9, 0, true, 0, 0), TAKEN);
+    assert_eq!(open(&mut w.areas, 9, 1, 0, true, 0, 0), TAKEN);
+    w.areas.ports[9 * WORDS + 3] = 77; // only word 1 counts
+    w.areas.ports[9 * WORDS + 2] = 77;
+    assert_eq!(open(&mut w.areas, 9, 9, 0, true, 0, 0), 0);
     assert_eq!(w.fills(9), 0);
 }
 
 #[test]
 fn opening_does_not_test_the_words_of_the_old_port() {
     let mut w = World::with_ports();
-    w.areas.ports[4] = 0xFFFF;
+    w.areas.ports[1 * WORDS] = 0xFFFF;
     all_refuse(&w.areas, 1, DAMAGED, TAKEN);
 }
 
@@ -134,7 +134,7 @@ fn well_formed_port_words() {
     for (words, right) in cases {
         let mut areas = Areas::zero();
         areas.index[1] = 6;
-        areas.ports[24..27].copy_from_slice(&words);
+        areas.ports[6 * WORDS..6 * WORDS + 3].copy_from_slice(&words);
         assert_eq!(ask(&areas, 1) != Answer::Refused(DAMAGED), right, "{words:x?}");
         if !right {
             all_refuse(&areas, 1, DAMAGED, TAKEN);
@@ -145,7 +145,7 @@ fn well_formed_port_words() {
 #[test]
 fn port_255_is_used_to_its_last_word() {
     let mut areas = Areas::zero();
-    assert_eq!(open(&mut areas, 4095, 255, 4, false, 0), 0);
+    assert_eq!(open(&mut areas, 4095, 255, 4, false, 0, 0), 0);
     let words: Vec<u16> = (100..116).collect();
     assert_eq!(write(&mut areas, 4095, &words), 0);
     assert_eq!(areas.page1[4080..], words);
@@ -159,11 +159,11 @@ fn closing_zeroes_entry_and_words_pages_stay() {
     let mut expected = w.areas.clone();
     assert_eq!(close(&mut w.areas, 2), 0);
     expected.index[2] = 0;
-    expected.ports[8..12].fill(0);
+    expected.ports[2 * WORDS..3 * WORDS].fill(0);
     assert_eq!(w.areas, expected);
     assert_eq!(w.areas.page1[32..36], [1, 2, 3, 4]);
     assert_eq!(close(&mut w.areas, 2), NOPORT);
-    assert_eq!(open(&mut w.areas, 2, 2, 2, false, 0), 0);
+    assert_eq!(open(&mut w.areas, 2, 2, 2, false, 0, 0), 0);
     assert_eq!(ask(&w.areas, 2), Answer::Never);
 }
 
@@ -186,9 +186,9 @@ fn writes_take_turns_on_the_pages() {
 #[test]
 fn a_write_clears_the_status_bits_and_keeps_the_interrupt() {
     let mut w = World::with_ports();
-    w.areas.ports[9] |= STATUS_BITS;
+    w.areas.ports[2 * WORDS + 1] |= STATUS_BITS;
     assert_eq!(write(&mut w.areas, 2, &[0; 4]), 0);
-    assert_eq!(w.areas.ports[8..12], [0x2002, SRC | EVER | VP, 5, 1]);
+    assert_eq!(w.areas.ports[2 * WORDS..2 * WORDS + 4], [0x2002, SRC | EVER | VP, 5, 1]);
     assert_eq!(w.seen(), 0);
 }
 
@@ -206,7 +206,7 @@ fn side_comes_before_size() {
 #[test]
 fn sixty_five_thousand_fills() {
     let mut w = World::with_ports();
-    w.areas.ports[11] = 65_535;
+    w.areas.ports[2 * WORDS + 3] = 65_535;
     assert_eq!(write(&mut w.areas, 2, &[9; 4]), 0);
     assert_eq!(w.fills(2), 0);
     assert_eq!(ask(&w.areas, 2), Answer::Good);
@@ -226,7 +226,7 @@ fn asking() {
         (EVER | VP | TERR, Answer::Held),
         (EVER | STO | TERR, Answer::Held),
     ] {
-        w.areas.ports[5] = SINK | bits;
+        w.areas.ports[1 * WORDS + 1] = SINK | bits;
         assert_eq!(ask(&w.areas, 1), answer);
         assert_eq!(fetch(&w.areas, 1).is_empty(), answer == Answer::Never);
     }
@@ -241,11 +241,11 @@ fn fetching_is_chosen_by_vp_and_sized_by_f_code() {
     }
     for (code, size) in [(0, 1), (1, 2), (2, 4), (3, 8), (4, 16)] {
         let p = 10 + code;
-        assert_eq!(open(&mut areas, code, p, code, true, 0), 0);
+        assert_eq!(open(&mut areas, code, p, code, true, 0, 0), 0);
         let first = 16 * p;
-        areas.ports[4 * p as usize + 1] = SINK | EVER;
+        areas.ports[WORDS * p as usize + 1] = SINK | EVER;
         assert_eq!(fetch(&areas, code), (first..first + size).collect::<Vec<_>>());
-        areas.ports[4 * p as usize + 1] = SINK | EVER | VP | STO;
+        areas.ports[WORDS * p as usize + 1] = SINK | EVER | VP | STO;
         assert_eq!(fetch(&areas, code), (10_000 + first..10_000 + first + size).collect::<Vec<_>>());
     }
 }

@@ -1,5 +1,6 @@
 //! Cases by section of the document. The program's own are in tests/program.rs.
 
+mod ages;
 mod check;
 mod event;
 mod host;
@@ -65,8 +66,8 @@ impl World {
     /// Address 1 is port 1: F-code 0, sink, interrupt 3. Address 2 is port 2: F-code 2, source.
     pub fn with_ports() -> World {
         let mut w = World::new();
-        assert_eq!(open(&mut w.areas, 1, 1, 0, true, 3), 0);
-        assert_eq!(open(&mut w.areas, 2, 2, 2, false, 5), 0);
+        assert_eq!(open(&mut w.areas, 1, 1, 0, true, 3, 0), 0);
+        assert_eq!(open(&mut w.areas, 2, 2, 2, false, 5, 0), 0);
         w
     }
 
@@ -90,11 +91,11 @@ impl World {
     }
 
     pub fn word1(&self, p: usize) -> u16 {
-        self.areas.ports[4 * p + 1]
+        self.areas.ports[WORDS * p + 1]
     }
 
     pub fn fills(&self, p: usize) -> u16 {
-        self.areas.ports[4 * p + 3]
+        self.areas.ports[WORDS * p + 3]
     }
 
     /// The event is refused so, without a reply, and nothing changes.

@@ -20,9 +20,9 @@ fn sixty_three_is_in_time_sixty_four_is_not() {
 fn a_timeout_gives_sto_alone() {
     for before in [SINK | STATUS_BITS, SINK | EVER | VP | TERR | CRC, SINK] {
         let mut w = World::with_ports();
-        w.areas.ports[5] = before;
+        w.areas.ports[1 * WORDS + 1] = before;
         let mut expected = w.areas.clone();
-        expected.ports[5] = before & !STATUS_BITS | STO;
+        expected.ports[1 * WORDS + 1] = before & !STATUS_BITS | STO;
         w.both(master(1));
         w.quiet(64);
         assert_eq!(w.areas, expected);
@@ -156,7 +156,7 @@ fn ranges_of_quiet() {
 
 #[test]
 fn damage_met_after_some_bit_times_changes_nothing() {
-    for damage in [|areas: &mut Areas| areas.index[1] = 256, |areas: &mut Areas| areas.ports[6] = 8] {
+    for damage in [|areas: &mut Areas| areas.index[1] = 256, |areas: &mut Areas| areas.ports[1 * WORDS + 2] = 8] {
         let mut w = World::with_ports();
         w.both(master(1));
         w.quiet(3);

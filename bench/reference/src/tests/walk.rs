@@ -75,7 +75,7 @@ fn every_step_keeps_the_invariants() {
             }
             10 => { let n = dice.below(100) as u32; quiet(&mut w.c, &mut w.areas, n) }
             11 => { let n = dice.below(3000) as u32; quiet(&mut w.c, &mut w.areas, n) }
-            12 => open(&mut w.areas, a, dice.below(8) as u16, dice.below(6) as u16, dice.below(3) > 0, dice.below(9) as u16),
+            12 => open(&mut w.areas, a, dice.below(8) as u16, dice.below(6) as u16, dice.below(3) > 0, dice.below(9) as u16, dice.below(4) as u16),
             13 => if dice.below(4) == 0 { close(&mut w.areas, a) } else { 0 },
             14 | 15 => write(&mut w.areas, a, &vec![dice.below(65_536) as u16; 1 << dice.below(5)]),
             16 => {
@@ -100,7 +100,7 @@ fn every_step_keeps_the_invariants() {
             },
             18 => { // damage, or its repair
                 if dice.below(3) == 0 { w.areas.index[a as usize] = [0, 300, 3][dice.below(3) as usize]; }
-                for p in 1..8 { if dice.below(9) == 0 { w.areas.ports[4 * p..4 * p + 4].fill(0); } }
+                for p in 1..8 { if dice.below(9) == 0 { w.areas.ports[WORDS * p..WORDS * p + WORDS].fill(0); } }
                 continue;
             }
             _ => match ask(&w.areas, a) {
@@ -120,11 +120,11 @@ fn every_step_keeps_the_invariants() {
     assert!(replies > 100, "{replies}");
 }
 
-/// "Damage, as demand 3 means it": without a sound frame only status bits change.
+/// "Damage, as demand 3 means it": without a sound frame only status bits change; "ages may change during damage".
 #[test]
-fn a_damaged_stretch_changes_only_status_bits() {
+fn a_damaged_stretch_changes_only_status_bits_and_ages() {
     let mut dice = Dice(7);
-    let mut changed = 0;
+    let (mut changed, mut aged) = (0, 0);
     for _ in 0..500 {
         let mut w = World::with_ports();
         write(&mut w.areas, 2, &[1, 2, 3, 4]);
@@ -142,14 +142,16 @@ fn a_damaged_stretch_changes_only_status_bits() {
             };
             if !sound(&a) && !sound(&b) {
                 hear(&mut w.c, &mut w.areas, a, b);
-                w.quiet(dice.below(20) as u32);
+                w.quiet(dice.below(500) as u32);
             }
         }
+        aged += (w.areas.ports[WORDS + AGE] != 0) as u32;
+        w.areas.ports[WORDS + AGE] = 0;
         changed += (w.areas != before) as u32;
         for port in 1..=2 {
-            w.areas.ports[4 * port + 1] &= !STATUS_BITS;
+            w.areas.ports[WORDS * port + 1] &= !STATUS_BITS;
         }
         assert_eq!(w.areas, before);
     }
-    assert!(changed > 100);
+    assert!(changed > 100 && aged > 100, "{changed} {aged}");
 }

@@ -8,10 +8,13 @@ use Rattle.areas.proofs.port.well_formed.Tie as tie
 returns : tie.Need-returns
 unfolding wellFormed zeroBits
 returns c =
-    let back4 = c .before .before .before .before in
+    let told = c .before .before .before .before in
+    let back4 = told .before .before .before .before in
     rw (
-      c .both4 .ensures,
-      c .before .before .both3 .ensures,
+      c .both6 .ensures,
+      c .before .before .both5 .ensures,
+      told .both4 .ensures,
+      told .before .before .both3 .ensures,
       back4 .both2 .ensures,
       back4 .before .one-side .ensures,
       back4 .before .before .flags-of .ensures,
@@ -22,4 +25,4 @@ pub well-formed-spec : {M : Type 1} → statement M
 well-formed-spec =
     tie.close
     (tie.spec (λ c κs. search needs) (λ c κs. search needs) (λ c κs. search needs) (λ c κs. search needs) (λ c κs. search needs)
-    (λ c κs. search needs) returns)
+    (λ c κs. search needs) (λ c κs. search needs) (λ c κs. search needs) returns)

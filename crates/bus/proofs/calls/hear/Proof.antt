@@ -38,12 +38,9 @@ returns c =
     let tested = seen .before .before in
     let heard = tested .before .before .before .before .before .before .before .before .before .before in
     hear-accepted _ _ _ _ (number tested) (seen .before .if1 .taken) _
-    (rw (
-      seen .observed .ensures,
-      tested .before .before .before .before .before .before .before .before .sought-heard .ensures,
-      heard .heard .ensures,
-      heard .before .trusted .ensures,
-    ) at (done .accept .ensures))
+    (rw (heard .heard .ensures, heard .before .trusted .ensures) at
+    (rw (seen .observed .ensures, tested .before .before .before .before .before .before .before .before .sought-heard .ensures) at
+    (done .accept .ensures)))
 
 returns-2 : tie.Need-returns-2
 returns-2 c =

@@ -5,15 +5,15 @@ use borrow.Author.Needs.{needs}
 use lib.ListN.{length}
 use Rattle.model.specs.Layout.{areas}
 use Rattle.model.specs.Event.{world}
-use Rattle.model.specs.Quiet.{ticks}
-use Rattle.bus.proofs.Passing.{left-less, jump-left, tick-left}
+use Rattle.model.specs.Quiet.{pulses}
+use Rattle.bus.proofs.Passing.{left-less, jump-left, pulse-left}
 use Rattle.bus.proofs.calls.pass.Statement.{statement}
 use Rattle.bus.proofs.calls.pass.Tie as tie
 
 abbrev Inv-loop : tie.InvT-loop
 Inv-loop index ports₀ page0 page1 n d₀ left₀ ports d left =
     (length ports ≡ length ports₀)
-    × (ticks left (world d (areas index ports page0 page1)) ≡ ticks n (world d₀ (areas index ports₀ page0 page1)))
+    × (pulses left (world d (areas index ports page0 page1)) ≡ pulses n (world d₀ (areas index ports₀ page0 page1)))
 
 abbrev μ-loop : tie.MeasureT-loop
 μ-loop index ports₀ page0 page1 n d₀ left₀ ports d left = left
@@ -31,9 +31,9 @@ loop-again : tie.Need-loop-again Inv-loop μ-loop
 loop-again c =
     let jumping = c .before .before .before .before .before .before in
     let l = jumping .before .before .loop in
-    let ticked = c .before .before in (
+    let pulsed = c .before .before in (
       search needs,
-      ap (ticks _) (ticked .tick .ensures) ∙ tick-left _ _ (ticked .before .before .if1 .taken) ∙ jump-left _ _ _ (jumping .jump .ensures)
+      ap (pulses _) (pulsed .pulse .ensures) ∙ pulse-left _ _ (pulsed .before .before .if1 .taken) ∙ jump-left _ _ _ (jumping .jump .ensures)
           ∙ l .inv .1,
     )
 
@@ -47,7 +47,7 @@ same-length : tie.Need-same-length Inv-loop μ-loop
 same-length c = c .before .loop .inv .0
 
 returns : tie.Need-returns Inv-loop μ-loop
-unfolding ticks
+unfolding pulses
 returns c =
     let h : c .before .loop .left ≡ 0 = omega arith in
     rw h at (c .before .loop .inv .1)

@@ -25,8 +25,10 @@ number c =
 
 returns : tie.Need-returns
 returns c =
-    let tested = c .before .before .before .before .before in
-    rw (c .silent .ensures, c .before .before .before .pass .ensures)
+    let grown = c .before .before .before in
+    let passed = grown .before .before .before .before in
+    let tested = passed .before .before in
+    rw (c .silent .ensures, grown .grow .ensures, passed .pass .ensures)
     (sym (quiet-accepted _ _ _ (number (tested .before)) (tested .if1 .taken)))
 
 returns-2 : tie.Need-returns-2
@@ -36,4 +38,4 @@ pub quiet-spec : {M : Type 1} → statement M
 quiet-spec =
     tie.close
     (tie.spec (λ c κs. search needs) (λ c κs. search needs) (λ c κs. search needs) (λ c κs. search needs) (λ c κs. search needs)
-    (λ c κs. search needs) (λ c. search needs) returns (λ c κs. search needs) (λ c. search needs) returns-2)
+    (λ c κs. search needs) (λ c κs. search needs) (λ c. search needs) returns (λ c κs. search needs) (λ c. search needs) returns-2)

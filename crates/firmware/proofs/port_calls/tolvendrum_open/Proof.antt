@@ -15,7 +15,7 @@ returns c =
     let tested = called .before .before .before .before in
     let flagged = tested .before .before in
     let a = tested .before .before .before .before .before .before .before .before .before .before .args in
-    let call = openPort (a .a) (a .p) (a .code) (isSet (a .sink)) (a .interrupt) in
+    let call = openPort (a .a) (a .p) (a .code) (isSet (a .sink)) (a .interrupt) (a .limit) in
     (rw (called .before .is-set .ensures) at (called .«open» .ensures))
     ∙ opened (flagged .before .fits2 .result) (isBit (a .sink)) call (lent (a .index) (a .ports) (a .page0) (a .page1))
     (rw (flagged .is-bit .ensures) at (sym (tested .before .both .ensures) ∙ tested .if1 .taken))
@@ -25,7 +25,7 @@ returns-2 c =
     let tested = c .before .before .before in
     let flagged = tested .before .before in
     let a = tested .before .before .before .before .before .before .before .before .before .before .args in
-    let call = openPort (a .a) (a .p) (a .code) (isSet (a .sink)) (a .interrupt) in
+    let call = openPort (a .a) (a .p) (a .code) (isSet (a .sink)) (a .interrupt) (a .limit) in
     rw (c .away-number .ensures)
     (not-opened (flagged .before .fits2 .result) (isBit (a .sink)) call _ (lent (a .index) (a .ports) (a .page0) (a .page1))
     (rw (flagged .is-bit .ensures) at (sym (tested .before .both .ensures) ∙ tested .if1 .left)) (flagged .before .fits2 .ensures) refl)

@@ -11,4 +11,4 @@ pub is-ours-spec : {M : Type 1} → statement M
 is-ours-spec =
     tie.close
     (tie.spec (λ c κs. tt) (λ c κs. tt) (λ c κs. tt) (λ c κs. tt) (λ c κs. tt) (λ c κs. tt) (λ c κs. tt) (λ c κs. tt) (λ c κs. tt)
-    (λ c κs. tt) (λ c κs. tt) returns)
+    (λ c κs. tt) (λ c κs. tt) (λ c κs. tt) returns)

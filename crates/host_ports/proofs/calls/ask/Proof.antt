@@ -11,7 +11,7 @@ use Rattle.host_ports.proofs.calls.ask.Tie as tie
 returns : tie.Need-returns
 unfolding asked
 returns c =
-    let found = c .before .before .before in
+    let found = c .before .before in
     let a = found .before .before .before .before .before .before .before .args in
     let m = lent (a .index) (a .ports) (a .page0) (a .page1) in
     let answers : c .pick-answer .result ≡ asked m (a .a) =
@@ -19,7 +19,6 @@ returns c =
       read-number m (a .a),
       c .pick-answer .ensures,
       c .before .state-of .ensures,
-      c .before .before .flags-of .ensures,
       found .get-port .ensures,
       found .before .get .ensures,
       found .before .before .reach .ensures,
@@ -30,4 +29,4 @@ pub ask-spec : {M : Type 1} → statement M
 ask-spec =
     tie.close
     (tie.spec (λ c κs. search needs) (λ c κs. search needs) (λ c κs. search needs) (λ c κs. search needs) (λ c κs. search needs)
-    (λ c κs. search needs) returns)
+    returns)

@@ -22,7 +22,7 @@ returns c =
     let tested = made .before .before in
     let a = tested .before .before .before .before .before .before .before .args in
     let m = lent (a .index) (a .ports) (a .page0) (a .page1) in
-    let n = open-number m (a .a) (a .p) (a .code) (a .sink) (a .interrupt) in
+    let n = open-number m (a .a) (a .p) (a .code) (a .sink) (a .interrupt) (a .limit) in
     rw (c .before .before .put-port .ensures, c .before .before .before .before .before .before .put .ensures, made .open-words .ensures)
     (done _ m n (tested .of-open .ensures) (made .before .if1 .taken))
 
@@ -30,7 +30,7 @@ returns-2 : tie.Need-returns-2
 returns-2 c =
     let a = c .before .before .before .before .before .before .before .before .args in
     let m = lent (a .index) (a .ports) (a .page0) (a .page1) in
-    refused _ m (open-number m (a .a) (a .p) (a .code) (a .sink) (a .interrupt)) (c .before .of-open .ensures) (c .if1 .left)
+    refused _ m (open-number m (a .a) (a .p) (a .code) (a .sink) (a .interrupt) (a .limit)) (c .before .of-open .ensures) (c .if1 .left)
 
 pub open-spec : {M : Type 1} → statement M
 open-spec =

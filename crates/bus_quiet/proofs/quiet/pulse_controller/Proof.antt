@@ -1,10 +1,10 @@
--- `quiet::tick_controller` meets its contract: the definition is opened, and its parts are what the callees ensure. Assumes nothing.
-use Rattle.bus_quiet.specs.Quiet.{tickOf}
-use Rattle.bus_quiet.proofs.quiet.tick_controller.Statement.{statement}
-use Rattle.bus_quiet.proofs.quiet.tick_controller.Tie as tie
+-- `quiet::pulse_controller` meets its contract: the definition is opened, and its parts are what the callees ensure. Assumes nothing.
+use Rattle.bus_quiet.specs.Quiet.{pulseOf}
+use Rattle.bus_quiet.proofs.quiet.pulse_controller.Statement.{statement}
+use Rattle.bus_quiet.proofs.quiet.pulse_controller.Tie as tie
 
 returns : tie.Need-returns
-unfolding tickOf
+unfolding pulseOf
 returns c =
     let b = c .before .before .before .before in
     rw (
@@ -19,8 +19,8 @@ returns c =
       b .before .before .before .before .due .ensures,
     )
 
-pub tick-controller-spec : {M : Type 1} → statement M
-tick-controller-spec =
+pub pulse-controller-spec : {M : Type 1} → statement M
+pulse-controller-spec =
     tie.close
     (tie.spec (λ c κs. tt) (λ c κs. tt) (λ c κs. tt) (λ c κs. tt) (λ c κs. tt) (λ c κs. tt) (λ c κs. tt) (λ c κs. tt) (λ c κs. tt)
     returns)
