@@ -265,7 +265,7 @@ impl Sides {
                     black_box(m.fetch(black_box(SOURCE)));
                 }),
                 again(|| {
-                    black_box(plain::ask(areas, black_box(SOURCE)));
+                    black_box(plain::ask(areas.tables(), black_box(SOURCE)));
                     black_box(plain::fetch(areas, black_box(SOURCE)));
                 }),
             ],

@@ -197,7 +197,8 @@ impl Run {
 
     fn ask(&mut self) -> Answers {
         let address = self.address();
-        let plain = sides::asked(plain::ask(&self.plain, address));
+        let plain = sides::asked(plain::ask(self.plain.tables(), address));
+        self.see("asked without pages", plain.refusal == 0 && self.plain.test_lengths().is_err());
         self.see("never", plain == ours::Number { refusal: 0, value: 0 });
         self.see("good", plain.value == 1);
         self.see("held", plain.value == 2);
@@ -206,10 +207,12 @@ impl Run {
         pair(self.ours.lent().ask(address), plain)
     }
 
+    /// The library answers a number too: 1 where an area has another length, else what asking answers.
     fn fetch(&mut self) -> Answers {
         let address = self.address();
         let words = plain::fetch(&self.plain, address);
-        let refusal = sides::asked(plain::ask(&self.plain, address)).refusal;
+        let asked = sides::asked(plain::ask(self.plain.tables(), address)).refusal;
+        let refusal = if self.plain.test_lengths().is_err() { 1 } else { asked };
         let mut plain = ours::Fetched { refusal, size: words.len() as u16, words: [0; 16] };
         plain.words[..words.len()].copy_from_slice(&words);
         self.see("fetched", !words.is_empty());
@@ -313,7 +316,8 @@ impl Run {
         let mut draw = self.random.below(crate::CALLS.iter().map(|(_, often)| often).sum());
         let name = crate::CALLS.iter().find(|(_, often)| draw < *often || { draw -= often; false }).expect("a call").0;
         *self.made.entry(name).or_insert(0) += 1;
-        let whole = (self.random.once_in(64) && !matches!(name, "poke" | "mend")).then(|| self.ours.clone());
+        let often = if matches!(name, "ask" | "fetch") { 8 } else { 64 };
+        let whole = (self.random.once_in(often) && !matches!(name, "poke" | "mend")).then(|| self.ours.clone());
         if whole.is_some() {
             self.cut();
         }

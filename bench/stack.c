@@ -13,7 +13,8 @@ static unsigned char stack[STACK] __attribute__((aligned(64)));
 static ucontext_t here, there;
 
 static uint16_t index_table[TOLVENDRUM_INDEX_LENGTH], port_words[TOLVENDRUM_PORTS_LENGTH], page0[TOLVENDRUM_PAGE_LENGTH], page1[TOLVENDRUM_PAGE_LENGTH];
-#define AREAS index_table, TOLVENDRUM_INDEX_LENGTH, port_words, TOLVENDRUM_PORTS_LENGTH, page0, TOLVENDRUM_PAGE_LENGTH, page1, TOLVENDRUM_PAGE_LENGTH
+#define TABLES index_table, TOLVENDRUM_INDEX_LENGTH, port_words, TOLVENDRUM_PORTS_LENGTH
+#define AREAS TABLES, page0, TOLVENDRUM_PAGE_LENGTH, page1, TOLVENDRUM_PAGE_LENGTH
 
 /* What the calls take and answer stands outside the painted stack, as far as C lets it. */
 static tolvendrum_controller c, waiting;
@@ -31,7 +32,7 @@ static void reset(void) { c = tolvendrum_reset(); }
 static void open_sink(void) { refusal = tolvendrum_open(AREAS, 1, 1, 4, 1, 1, 1); }
 static void open_source(void) { refusal = tolvendrum_open(AREAS, 2, 2, 4, 0, 1, 0); }
 static void write_source(void) { refusal = tolvendrum_write(AREAS, 2, words, 16); }
-static void ask(void) { number = tolvendrum_ask(AREAS, 2); }
+static void ask(void) { number = tolvendrum_ask(TABLES, 2); }
 static void fetch(void) { fetched = tolvendrum_fetch(AREAS, 2); }
 static void hear_master(void) { answered = tolvendrum_hear(AREAS, c, to_sink, to_sink); }
 static void hear_for_reply(void) { answered = tolvendrum_hear(AREAS, c, to_source, to_source); }

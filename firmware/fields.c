@@ -10,9 +10,9 @@ static uint16_t port_words[TOLVENDRUM_PORTS_LENGTH];
 static uint16_t page0[TOLVENDRUM_PAGE_LENGTH];
 static uint16_t page1[TOLVENDRUM_PAGE_LENGTH];
 
-#define AREAS                                                                                                                          \
-    index_table, TOLVENDRUM_INDEX_LENGTH, port_words, TOLVENDRUM_PORTS_LENGTH, page0, TOLVENDRUM_PAGE_LENGTH, page1,                    \
-        TOLVENDRUM_PAGE_LENGTH
+/* The index table and the port words, which asking is lent, and all four. */
+#define TABLES index_table, TOLVENDRUM_INDEX_LENGTH, port_words, TOLVENDRUM_PORTS_LENGTH
+#define AREAS TABLES, page0, TOLVENDRUM_PAGE_LENGTH, page1, TOLVENDRUM_PAGE_LENGTH
 
 enum { SINK_ADDRESS = 1, SOURCE_ADDRESS = 2, LONG_ADDRESS = 3, SINK_PORT = 7, SOURCE_PORT = 8, LONG_PORT = 9 };
 enum { ONE_WORD = 0, TWO_WORDS = 1, SIXTEEN_WORDS = 4, TRANSFER = 3, MILLISECONDS = 2 };
@@ -172,21 +172,25 @@ static void hearings_and_ports(void)
     marked = slave;
     marked.alo = 1;
     IS(status_after(marked), TERR | TOLVENDRUM_PORT_ALO);
-    IS(tolvendrum_ask(AREAS, SINK_ADDRESS).value, TOLVENDRUM_NEVER);
+    IS(tolvendrum_ask(TABLES, SINK_ADDRESS).value, TOLVENDRUM_NEVER);
     IS(status_after(slave), 0);
-    IS(tolvendrum_ask(AREAS, SINK_ADDRESS).value, TOLVENDRUM_GOOD);
+    IS(tolvendrum_ask(TABLES, SINK_ADDRESS).value, TOLVENDRUM_GOOD);
     tolvendrum_fetched f = tolvendrum_fetch(AREAS, SINK_ADDRESS);
     IS(f.size, 1);
     IS(f.words[0], 2);
-    IS(tolvendrum_ask(AREAS, 9).refusal, TOLVENDRUM_NOPORT);
+    f = tolvendrum_fetch(TABLES, page0, TOLVENDRUM_PAGE_LENGTH, page1, TOLVENDRUM_PAGE_LENGTH - 1, SINK_ADDRESS);
+    IS(f.refusal, TOLVENDRUM_AREA);
+    IS(f.size, 0);
+    IS(tolvendrum_ask(TABLES, 9).refusal, TOLVENDRUM_NOPORT);
+    IS(tolvendrum_ask(index_table, TOLVENDRUM_INDEX_LENGTH - 1, port_words, TOLVENDRUM_PORTS_LENGTH, SINK_ADDRESS).refusal, TOLVENDRUM_AREA);
     tolvendrum_controller later = quiet(tolvendrum_reset(), 2999);
     IS(later.phase, 1499);
     IS(port_words[AGE], 1);
-    IS(tolvendrum_ask(AREAS, SINK_ADDRESS).value, TOLVENDRUM_GOOD);
+    IS(tolvendrum_ask(TABLES, SINK_ADDRESS).value, TOLVENDRUM_GOOD);
     later = quiet(later, 1);
     IS(later.phase, 0);
     IS(port_words[AGE], port_words[LIMIT]);
-    IS(tolvendrum_ask(AREAS, SINK_ADDRESS).value, TOLVENDRUM_STALE);
+    IS(tolvendrum_ask(TABLES, SINK_ADDRESS).value, TOLVENDRUM_STALE);
     later.phase = TOLVENDRUM_MILLISECOND;
     IS(tolvendrum_quiet(AREAS, later, 0).refusal, TOLVENDRUM_RANGE);
 

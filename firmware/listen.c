@@ -11,7 +11,9 @@ static uint16_t port_words[TOLVENDRUM_PORTS_LENGTH];
 static uint16_t page0[TOLVENDRUM_PAGE_LENGTH];
 static uint16_t page1[TOLVENDRUM_PAGE_LENGTH];
 
-#define AREAS index_table, TOLVENDRUM_INDEX_LENGTH, port_words, TOLVENDRUM_PORTS_LENGTH, page0, TOLVENDRUM_PAGE_LENGTH, page1, TOLVENDRUM_PAGE_LENGTH
+/* The index table and the port words, which asking is lent, and all four. */
+#define TABLES index_table, TOLVENDRUM_INDEX_LENGTH, port_words, TOLVENDRUM_PORTS_LENGTH
+#define AREAS TABLES, page0, TOLVENDRUM_PAGE_LENGTH, page1, TOLVENDRUM_PAGE_LENGTH
 
 enum { OIL = 1, PORT = 1, ONE_WORD = 0, SINK = 1, NO_INTERRUPT = 0, LIMIT = 20, REPLY_TIME = 64 };
 
@@ -48,7 +50,7 @@ static tolvendrum_controller quiet(tolvendrum_controller c, uint32_t bit_times)
 static void print_oil(void)
 {
     static const char *const states[] = {"never", "good", "held", "stale"};
-    tolvendrum_number state = tolvendrum_ask(AREAS, OIL);
+    tolvendrum_number state = tolvendrum_ask(TABLES, OIL);
     must(state.refusal);
     tolvendrum_fetched f = tolvendrum_fetch(AREAS, OIL);
     must(f.refusal);

@@ -3,13 +3,13 @@
  *
  * The controller is a struct of 16-bit numbers that goes into a call by value and comes back in its answer. Nothing is kept between calls,
  * nothing is allocated, and every call ends. What a call may change besides is what it is lent: four areas of 16-bit words, each as a
- * pointer and its length in words (not in bytes). A pointer must lead to as many words as its length says, and the areas must not overlap;
- * all else is tested, and refused by number.
+ * pointer and its length in words (not in bytes). Asking is lent two of them, the index table and the port words. A pointer must lead to as
+ * many words as its length says, and the areas must not overlap; all else is tested, and refused by number.
  *
  * Refusals. A refused call answers its number and leaves controller and areas as they were; a refused bus event has no reply.
  *
  *   0          accepted
- *   1 AREA     an area has another length
+ *   1 AREA     an area that the call is lent has another length
  *   2 RANGE    an argument is out of range, or a write has not the port's size
  *   3 NOPORT   the index entry is 0 (not on opening)
  *   4 TAKEN    opening: the address has an entry, or word 1 of that port is not 0
@@ -33,7 +33,7 @@
 #include <stdint.h>
 
 /* The version of this interface. docs/INTERFACE.md says when each number grows. */
-#define TOLVENDRUM_VERSION_MAJOR 4
+#define TOLVENDRUM_VERSION_MAJOR 5
 #define TOLVENDRUM_VERSION_MINOR 0
 
 #ifdef __cplusplus
@@ -287,7 +287,7 @@ typedef struct {
 /* The words of a port. */
 typedef struct {
     tolvendrum_refusal refusal;
-    uint16_t size; /* how many words; 0 where asking refuses or answers never */
+    uint16_t size; /* how many words; 0 where refused, or never filled */
     uint16_t words[16]; /* zeros after them */
 } tolvendrum_fetched;
 
@@ -432,12 +432,11 @@ tolvendrum_refusal tolvendrum_write(const uint16_t *index, size_t index_length, 
                           size_t length);
 
 /* The state of the port at an address: never; held (filled, but the last exchange failed); stale (filled and not held, but its limit is not 0,
- * and its age in milliseconds is at or above it); or good. `tolvendrum_quiet` says how an age grows. */
+ * and its age in milliseconds is at or above it); or good. `tolvendrum_quiet` says how an age grows. The pages are not needed. */
 tolvendrum_number tolvendrum_ask(const uint16_t *index, size_t index_length, const uint16_t *ports, size_t ports_length,
-                                 const uint16_t *page0, size_t page0_length, const uint16_t *page1, size_t page1_length,
                                  uint16_t address);
 
-/* The words of the port at an address, and zeros after them. */
+/* The words of the port at an address, and zeros after them. It is refused as asking is, and with 1 where a page has another length. */
 tolvendrum_fetched tolvendrum_fetch(const uint16_t *index, size_t index_length, const uint16_t *ports, size_t ports_length,
                                     const uint16_t *page0, size_t page0_length, const uint16_t *page1, size_t page1_length,
                                     uint16_t address);

@@ -127,7 +127,7 @@ flat! {
     /// The words of a port.
     Fetched {
         refusal: u16,
-        /// how many words; 0 where asking refuses or answers never
+        /// how many words; 0 where refused, or never filled
         size: u16,
         /// zeros after them
         words: [u16; 16],
@@ -240,8 +240,7 @@ extern "C" {
         address: u16) -> u16;
     fn tolvendrum_write(i: *const u16, il: usize, p: *mut u16, pl: usize, z: *mut u16, zl: usize, o: *mut u16, ol: usize,
         address: u16, words: *const u16, length: usize) -> u16;
-    fn tolvendrum_ask(i: *const u16, il: usize, p: *const u16, pl: usize, z: *const u16, zl: usize, o: *const u16, ol: usize,
-        address: u16) -> Number;
+    fn tolvendrum_ask(i: *const u16, il: usize, p: *const u16, pl: usize, address: u16) -> Number;
     fn tolvendrum_fetch(i: *const u16, il: usize, p: *const u16, pl: usize, z: *const u16, zl: usize, o: *const u16, ol: usize,
         address: u16) -> Fetched;
     fn tolvendrum_hear(i: *const u16, il: usize, p: *mut u16, pl: usize, z: *mut u16, zl: usize, o: *mut u16, ol: usize,
@@ -338,7 +337,8 @@ impl Fetched {
     }
 }
 
-/// The four areas as they are lent, of any length: a call refuses another length than its own with 1. To begin with all words are zero.
+/// The four areas as they are lent, of any length: a call answers 1 where one that it is lent has another length than its own; asking is lent
+/// the first two. To begin with all words are zero.
 pub struct Areas<'a> {
     pub index: &'a mut [u16],
     pub ports: &'a mut [u16],
@@ -370,9 +370,9 @@ impl Areas<'_> {
         unsafe { tolvendrum_write(i, il, p, pl, z, zl, o, ol, address, words.as_ptr(), words.len()) }
     }
 
+    /// By the index table and the port words alone, as `ask` does.
     pub fn ask(&self, address: u16) -> Number {
-        let ((i, il), (p, pl), (z, zl), (o, ol)) = (lend!(self.index), lend!(self.ports), lend!(self.page0), lend!(self.page1));
-        unsafe { tolvendrum_ask(i, il, p, pl, z, zl, o, ol, address) }
+        ask(self.index, self.ports, address)
     }
 
     pub fn fetch(&self, address: u16) -> Fetched {
@@ -390,6 +390,13 @@ impl Areas<'_> {
         let ((i, il), (p, pl), (z, zl), (o, ol)) = (lend!(self.index), lend!(mut self.ports), lend!(self.page0), lend!(self.page1));
         unsafe { tolvendrum_quiet(i, il, p, pl, z, zl, o, ol, c, bit_times) }
     }
+}
+
+// SAFETY: each pointer is lent with the length of its own slice.
+/// Asks for the state of a port where the pages are not at hand.
+pub fn ask(index: &[u16], ports: &[u16], address: u16) -> Number {
+    let ((i, il), (p, pl)) = (lend!(index), lend!(ports));
+    unsafe { tolvendrum_ask(i, il, p, pl, address) }
 }
 
 // SAFETY: the pointer is lent with the length of its slice.

@@ -33,6 +33,10 @@ pub struct Areas {
     pub page1: Vec<u16>,
 }
 
+/// The two areas that asking is lent.
+#[derive(Clone, Copy)]
+pub struct Tables<'a> { pub index: &'a [u16], pub ports: &'a [u16] }
+
 /// A port that was found well formed: its number and its words 0 to 2.
 #[derive(Clone, Copy, PartialEq, Debug)]
 pub struct Port { pub number: usize, pub master_word: u16, pub word1: u16, pub interrupt: u16 }
@@ -47,26 +51,20 @@ impl Port {
     }
 }
 
-impl Areas {
-    /// Four areas of the right lengths, all words zero.
-    pub fn zero() -> Areas {
-        Areas { index: vec![0; 4096], ports: vec![0; 256 * WORDS], page0: vec![0; 4096], page1: vec![0; 4096] }
-    }
-
-    pub fn test_lengths(&self) -> Result<(), u16> {
-        let lengths = [self.index.len(), self.ports.len(), self.page0.len(), self.page1.len()];
-        refuse_unless(lengths == [4096, 256 * WORDS, 4096, 4096], AREA)
+impl Tables<'_> {
+    pub fn test_lengths(self) -> Result<(), u16> {
+        refuse_unless([self.index.len(), self.ports.len()] == [4096, 256 * WORDS], AREA)
     }
 
     /// The index entry of address a.
-    pub fn entry(&self, a: u16) -> Result<u16, u16> {
+    pub fn entry(self, a: u16) -> Result<u16, u16> {
         let entry = self.index[a as usize];
         refuse_unless(entry <= 255, DAMAGED)?;
         Ok(entry)
     }
 
     /// The port of address a, none for entry 0.
-    pub fn port_of(&self, a: u16) -> Result<Option<Port>, u16> {
+    pub fn port_of(self, a: u16) -> Result<Option<Port>, u16> {
         let number = self.entry(a)? as usize;
         if number == 0 {
             return Ok(None);
@@ -77,7 +75,7 @@ impl Areas {
     }
 
     /// The port of this number, where its words are well formed for any address.
-    pub fn port(&self, number: usize) -> Option<Port> {
+    pub fn port(self, number: usize) -> Option<Port> {
         let words = &self.ports[WORDS * number..WORDS * number + WORDS];
         let port = Port { number, master_word: words[0], word1: words[1], interrupt: words[2] };
         let well_formed = port.master_word >> 12 <= 4
@@ -88,11 +86,27 @@ impl Areas {
             && words[7] == 0;
         well_formed.then_some(port)
     }
+}
+
+impl Areas {
+    /// Four areas of the right lengths, all words zero.
+    pub fn zero() -> Areas {
+        Areas { index: vec![0; 4096], ports: vec![0; 256 * WORDS], page0: vec![0; 4096], page1: vec![0; 4096] }
+    }
+
+    pub fn tables(&self) -> Tables<'_> {
+        Tables { index: &self.index, ports: &self.ports }
+    }
+
+    pub fn test_lengths(&self) -> Result<(), u16> {
+        self.tables().test_lengths()?;
+        refuse_unless([self.page0.len(), self.page1.len()] == [4096, 4096], AREA)
+    }
 
     /// A millisecond more: the age of each open sink grows by one and stops at 65,535. By port words alone.
     pub fn age(&mut self) {
         for number in 1..256 {
-            if self.port(number).is_some_and(|port| port.has(SINK)) {
+            if self.tables().port(number).is_some_and(|port| port.has(SINK)) {
                 let age = &mut self.ports[WORDS * number + AGE];
                 *age = age.saturating_add(1);
             }

@@ -14,7 +14,7 @@ pub(crate) fn port_with(areas: &Areas, master_word: u16) -> Result<Option<Port>,
     if master_word >> 12 > 4 {
         return Ok(None);
     }
-    let port = areas.port_of(master_word & 0x0FFF)?;
+    let port = areas.tables().port_of(master_word & 0x0FFF)?;
     Ok(port.filter(|port| port.master_word == master_word))
 }
 

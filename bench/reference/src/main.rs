@@ -171,7 +171,7 @@ impl Program {
     fn finish(&self, out: Output) -> Result<(), u16> {
         refuse_unless(self.setup.is_empty(), TEXT)?;
         for a in 0..4096u16 {
-            let state = match ask(&self.areas, a) {
+            let state = match ask(self.areas.tables(), a) {
                 Answer::Never => "never",
                 Answer::Good => "good",
                 Answer::Held => "held",

@@ -23,7 +23,7 @@ a & b = (a, b)
 abbrev pub lent : Slice → Slice → Slice → Slice → Areas
 lent i p z o = areas (now i) (now p) (now z) (now o)
 
--- the answers with which fetching hands back words
+-- the answers that show a port's words; whether fetching hands them back goes by the pages too
 abbrev pub shown : Answer → Bool
 shown Never = false
 shown Good = true

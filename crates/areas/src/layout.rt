@@ -1,9 +1,10 @@
 // The areas' words (document 01, "Memory lent to the calls"). Every function is total: past the end of an area a word reads as 0, and a
 // store there does nothing.
 ghost use mathlib.Core.Path.{_≡_};
+ghost use mathlib.Core.List.{[]};
 ghost use Prim.Native.Nat.{_≤_};
 ghost use lib.ListN.{getD, set};
-ghost use Rattle.model.specs.Layout.{areasFit, wordsAt, withWords, flagsOf, worth, marksNumber, wordOf};
+ghost use Rattle.model.specs.Layout.{areas, tablesFit, pagesFit, areasFit, wordsAt, withWords, flagsOf, worth, marksNumber, wordOf};
 ghost use Rattle.model.specs.Ports.{withAge};
 ghost use Rattle.areas.specs.Lent.{lent};
 use frames::Wrong;
@@ -28,18 +29,31 @@ pub fn put(s: &mut [u16], i: usize, v: u16)
     }
 }
 
-// The areas have their lengths.
+// The index table and the port words have their lengths.
+pub fn tables_fit(index: &[u16], ports: &[u16]) -> bool
+    ensures { λ r. ⌜ r ≡ tablesFit (areas (now (index .entry)) (now (ports .entry)) [] []) ⌝ }
+{
+    both(
+        index.len() == constants::INDEX,
+        ports.len() == constants::PORTS,
+    )
+}
+
+// Both pages have theirs.
+pub fn pages_fit(page0: &[u16], page1: &[u16]) -> bool
+    ensures { λ r. ⌜ r ≡ pagesFit (areas [] [] (now (page0 .entry)) (now (page1 .entry))) ⌝ }
+{
+    both(
+        page0.len() == constants::PAGE,
+        page1.len() == constants::PAGE,
+    )
+}
+
+// All four areas have theirs.
 pub fn fits(index: &[u16], ports: &[u16], page0: &[u16], page1: &[u16]) -> bool
     ensures { λ r. ⌜ r ≡ areasFit (lent (index .entry) (ports .entry) (page0 .entry) (page1 .entry)) ⌝ }
 {
-    let tables = both(
-        index.len() == constants::INDEX,
-        ports.len() == constants::PORTS,
-    );
-    both(
-        both(tables, page0.len() == constants::PAGE),
-        page1.len() == constants::PAGE,
-    )
+    both(tables_fit(index, ports), pages_fit(page0, page1))
 }
 
 // The eight words of port p.

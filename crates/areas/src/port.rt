@@ -86,7 +86,7 @@ pub fn state_of(w: Words) -> Answer
     pick_answer(f.ever, filled, Answer::Never)
 }
 
-// Whether fetching hands back words.
+// Whether an answer shows the port's words.
 pub fn shows(x: Answer) -> bool
     ensures { λ r. ⌜ r ≡ shown x ⌝ }
 {

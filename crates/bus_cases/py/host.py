@@ -31,7 +31,7 @@ def openings(s):
 
 def refusals(s):
     full = (4096, 2048, 4096, 4096)
-    s.begin("Refusal 1: an area of another length, in every call")
+    s.begin("Refusal 1: an area of another length, in every call that is lent it")
     s.open(1, 1, 0, sink=False)
     s.mark()
     for at in range(4):

@@ -58,8 +58,9 @@ class World:
         if not fact:
             raise Refused(number)
 
-    def areas_fit(self):
-        self.demand(self.lengths == LENGTHS, AREA)
+    def areas_fit(self, lent=4):
+        """The areas that a call is lent, from the index table on: "asking tests 1 only for its two areas" """
+        self.demand(self.lengths[:lent] == LENGTHS[:lent], AREA)
 
     def well_formed(self, address, port):
         """ "Port words are well formed if word 0 has F-code at most 4 and the sought address, exactly one of SRC and SINK is set, the zero
@@ -117,8 +118,8 @@ class World:
         self.index[address] = port
         self.ports[self.place(port)] = [code * 4096 + address, SINK if sink else SRC, interrupt, 0, limit, 0, 0, 0]
 
-    def reach(self, address):
-        self.areas_fit()
+    def reach(self, address, lent=4):
+        self.areas_fit(lent)
         self.demand(address <= 4095, RANGE)
         port = self.index[address]
         self.demand(port <= 255, DAMAGED)
@@ -140,8 +141,8 @@ class World:
 
     def ask(self, address):
         """ "Asking answers never, good, or held (filled, but STO or TERR set), or a refusal." "Read gains stale: filled, no fault, limit
-        nonzero and age at or above it. Never and held come first." """
-        port = self.reach(address)
+        nonzero and age at or above it. Never and held come first." "from the index table and port words alone" """
+        port = self.reach(address, lent=2)
         flags, limit, age = self.word(port, 1), self.word(port, LIMIT), self.word(port, AGE)
         if not flags & EVER:
             return "never"
@@ -150,8 +151,9 @@ class World:
         return "stale" if limit != 0 and age >= limit else "good"
 
     def fetch(self, address):
-        """ "it is empty exactly when asking refuses or answers never" """
-        if self.called(self.ask, address) in ("good", "held", "stale"):
+        """ "it is empty exactly when asking refuses or answers never"; "an empty part from fetching may now also mean a page of another
+        length" """
+        if self.lengths[2:] == LENGTHS[2:] and self.called(self.ask, address) in ("good", "held", "stale"):
             return self.valid_words(self.index[address])
         return []
 

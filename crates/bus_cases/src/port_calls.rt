@@ -63,7 +63,7 @@ fn write(
 
 fn read<'a>(index: &[u16], ports: &[u16], page0: &'a [u16], page1: &'a [u16], k: usize, a: u16) {
     if k == ASK {
-        say::answer(host_ports::calls::ask(index, ports, page0, page1, a));
+        say::answer(host_ports::calls::ask(index, ports, a));
     }
     if k == FETCH {
         say::words(

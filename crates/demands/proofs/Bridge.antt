@@ -1,16 +1,20 @@
 -- What each public function promises, as its contract says it, is a `Made`: the contract's own reading is cited, so that a promise that says
 -- less no longer gives the call. Assumes nothing.
+use Prim.Native.Nat.{ℕ}
 use mathlib.Core.Path.{_≡_, sym, _∙_}
 use mathlib.Core.Bool.{true}
+use mathlib.Core.List.{List}
 use lib.ListN.{getD}
 use denote.Ref.{now}
 use Rattle.model.specs.declared.Controller.{Controller}
-use Rattle.model.specs.Layout.{Areas, wordsAt, flagsOf}
+use Rattle.model.specs.Layout.{Areas, areas, wordsAt, flagsOf}
 use Rattle.model.specs.Event.{world, silent}
 use Rattle.model.specs.Host.{address, status, replyTime, slm, ls, clearEC, reset, group0, group1}
-use Rattle.model.specs.Calls.{hear, quiet, openPort, closePort, writePort, readPort, setting, portRefusal, asked, fetched, refusalOf}
-use Rattle.areas.specs.Lent.{lent, shown, validLent, Lies}
+use Rattle.model.specs.Calls.{hear, quiet, openPort, closePort, writePort, readPort, setting, portRefusal, fetched, refusalOf}
+use Rattle.model.proofs.Asking.{asks-alone, number-alone}
+use Rattle.areas.specs.Lent.{lent, validLent, Lies}
 use Rattle.areas.proofs.One.{OnePlace, one-place}
+use Rattle.host_ports.specs.Host.{handsBack}
 use Rattle.host_controller.specs.Groups.{callOf}
 use Rattle.bus.specs.One.{One}
 use Rattle.demands.specs.Made.{Made, by-hear, by-quiet, by-open, by-close, by-write, by-ask, by-set-address, by-set-reply-time}
@@ -48,10 +52,11 @@ made-quiet κs a r e p = by-quiet p
 
 -- the host's calls on ports, beside whatever controller there is
 module _ (c : Controller) where
-  -- asking gives `by-ask`
-  pub made-ask : (κs : _) (a : _) (r : _) (e : _) → ask-reads.Learnt κs a r e
-      → Made (world c (lent (a .0) (a .1 .0) (a .1 .1 .0) (a .1 .1 .1 .0))) (readPort (a .1 .1 .1 .1 .0)) (refusalOf r) silent (world c (lent (a .0) (a .1 .0) (a .1 .1 .0) (a .1 .1 .1 .0)))
-  made-ask κs a r e p = by-ask (p .0)
+  -- asking gives `by-ask`, beside whatever pages there are
+  pub made-ask : (page0 page1 : List ℕ) (κs : _) (a : _) (r : _) (e : _) → ask-reads.Learnt κs a r e
+      → let m = areas (now (a .0)) (now (a .1 .0)) page0 page1 in
+      Made (world c m) (readPort (a .1 .1 .0)) (refusalOf r) silent (world c m)
+  made-ask page0 page1 κs a r e p = by-ask (p .0 ∙ sym (asks-alone (now (a .0)) (now (a .1 .0)) page0 page1 (a .1 .1 .0)))
 
   -- opening gives `by-open`
   pub made-open : (κs : _) (a : _) (r : _) (e : _) → open-reads.Learnt κs a r e
@@ -77,28 +82,28 @@ module _ (c : Controller) where
 pub fetch-promised : (κs : _) (a : _) (r : _) (e : _) → fetch-reads.Learnt κs a r e → now r ≡ fetched (lent (a .0) (a .1 .0) (a .1 .1 .0) (a .1 .1 .1 .0)) (a .1 .1 .1 .1 .0)
 fetch-promised κs a r e p = p .0
 
--- where words are shown, they lie in the valid page, in the port's place
+-- where words are handed back, they lie in the valid page, in the port's place
 pub fetch-lies : (κs : _) (a : _) (r : _) (e : _) → fetch-reads.Learnt κs a r e
     → let p = getD (now (a .0)) (a .1 .1 .1 .1 .0) 0 in
-    shown (asked (lent (a .0) (a .1 .0) (a .1 .1 .0) (a .1 .1 .1 .0)) (a .1 .1 .1 .1 .0)) ≡ true
+    handsBack (lent (a .0) (a .1 .0) (a .1 .1 .0) (a .1 .1 .1 .0)) (a .1 .1 .1 .1 .0) ≡ true
     → Lies r (validLent (a .1 .1 .0) (a .1 .1 .1 .0) (flagsOf (wordsAt (now (a .1 .0)) p .flags))) p
 fetch-lies κs a r e p = p .1
 
--- so two results hold the same words, and where words are shown they lie in one place
+-- so two results hold the same words, and where words are handed back they lie in one place
 pub one-fetch : (κs : _) (a : _) (r s : _) (e f : _) → fetch-reads.Learnt κs a r e → fetch-reads.Learnt κs a s f
     → let p = getD (now (a .0)) (a .1 .1 .1 .1 .0) 0 in
     (now r ≡ now s)
-    × (shown (asked (lent (a .0) (a .1 .0) (a .1 .1 .0) (a .1 .1 .1 .0)) (a .1 .1 .1 .1 .0)) ≡ true
+    × (handsBack (lent (a .0) (a .1 .0) (a .1 .1 .0) (a .1 .1 .1 .0)) (a .1 .1 .1 .1 .0) ≡ true
     → OnePlace r s (validLent (a .1 .1 .0) (a .1 .1 .1 .0) (flagsOf (wordsAt (now (a .1 .0)) p .flags))) p)
 one-fetch κs a r s e f p q =
     let port = getD (now (a .0)) (a .1 .1 .1 .1 .0) 0 in
     let page = validLent (a .1 .1 .0) (a .1 .1 .1 .0) (flagsOf (wordsAt (now (a .1 .0)) port .flags)) in
     (fetch-promised κs a r e p ∙ sym (fetch-promised κs a s f q), λ h. one-place r s page port (fetch-lies κs a r e p h) (fetch-lies κs a s f q h))
 
--- asking answers document 01's number
-pub ask-number : (κs : _) (a : _) (r : _) (e : _) → ask-reads.Learnt κs a r e
-    → refusalOf r ≡ portRefusal (readPort (a .1 .1 .1 .1 .0)) (lent (a .0) (a .1 .0) (a .1 .1 .0) (a .1 .1 .1 .0))
-ask-number κs a r e p = p .1
+-- asking answers document 01's number, beside whatever pages there are
+pub ask-number : (page0 page1 : List ℕ) (κs : _) (a : _) (r : _) (e : _) → ask-reads.Learnt κs a r e
+    → refusalOf r ≡ portRefusal (readPort (a .1 .1 .0)) (areas (now (a .0)) (now (a .1 .0)) page0 page1)
+ask-number page0 page1 κs a r e p = p .1 ∙ sym (number-alone (now (a .0)) (now (a .1 .0)) page0 page1 (a .1 .1 .0))
 
 -- the host's settings, beside whatever areas there are
 module _ (m : Areas) where

@@ -12,11 +12,11 @@ use Rattle.frames.specs.Hearing.{wordsOf}
 use Rattle.interrupts.specs.Names.{SFC}
 use Rattle.model.specs.declared.Answer.{Answer}
 use Rattle.model.specs.declared.Answer.the-variants.{Never, Refused, Stale}
-use Rattle.model.specs.Layout.{Areas, portAt, flagsOf}
+use Rattle.model.specs.Layout.{Areas, pagesFit, portAt, flagsOf}
 use Rattle.model.specs.Lines.{LineBits}
 use Rattle.model.specs.Ports.{codeOf, addressOf, hasPorts, Standing, standing, view, oldest}
 use Rattle.model.specs.Event.{World, interruptOf, raiseAll, spoken}
-use Rattle.model.specs.Calls.{Call, hear, step, answer, asked, refusalOf, fetched, start}
+use Rattle.model.specs.Calls.{Call, hear, step, answer, asked, refusalOf, ShowsNone, fetched, start}
 use Rattle.model.specs.Past.{after, Typed, Accepted, onTrusted, firstWord, lastSettings, answers, Opening, openingOf, answersSince}
 use Rattle.model.specs.Past.{writesSince, lastOf, sourceTold, linesPolled, statusTold, replyIn, fillings, viewWith, toldView, shownWords}
 use Rattle.model.specs.Past.{takenIf, framesJudged, framesUnsound}
@@ -171,7 +171,7 @@ module _ {past : List Call} {s : World} (calls : Ran past s) where
     pub fetch-shows : (ws : List ℕ) → ws ≡ fetched (s .areas) a → ws ≡ shownWords (lastOf (fillings past a o))
     fetch-shows ws e = e ∙ rw (← same) (demand.fetch-shows past all a o stands)
 
--- Whatever the areas hold, what `fetch` hands back is empty exactly when `ask` refuses or answers never.
+-- Whatever the areas hold, what `fetch` hands back is empty exactly when `ask` refuses or answers never, or a page has another length.
 pub empty-exactly : (m : Areas) (a : ℕ) (ws : List ℕ) (x : Answer) → ws ≡ fetched m a → x ≡ asked m a
-    → (ws ≡ []) ↔ ((x ≡ Never) ⊎ ((n : ℕ) × (x ≡ Refused n)))
+    → (ws ≡ []) ↔ (ShowsNone x ⊎ (pagesFit m ≡ false))
 empty-exactly m a ws x e i = rw (e, i) (empty-of m a)

@@ -19,7 +19,7 @@ use Rattle.model.specs.declared.Heard.{Heard}
 use Rattle.model.specs.declared.Heard.the-variants.{Nothing, Unsound, Master, Reply, Stray}
 use Rattle.model.specs.declared.Sought.{Sought}
 use Rattle.model.specs.declared.Sought.the-variants.{Nothing as NoPort, Damaged, Port}
-use Rattle.model.specs.Layout.{Areas, entry, portAt, flagsOf, partOf, pagePlace}
+use Rattle.model.specs.Layout.{Areas, pagesFit, entry, portAt, flagsOf, partOf, pagePlace}
 use Rattle.model.specs.Ports.{codeOf, addressOf, hasPorts, sizeOf, validWords, Standing, standingOf, seek, seen, standing}
 use Rattle.model.specs.Event.{World, openFor, portFor, ifSource, sourceFor, pollsUs, ownWords, ifExpected, answerTo, sent, silent, spoken}
 use Rattle.model.specs.Event.{heardBy}
@@ -39,7 +39,7 @@ part-short page p code = omega (arith, size-small code, length-take (sizeOf code
 -- what is fetched has at most 16 words, whatever the areas hold
 pub fetched-short : (m : Areas) (a : ℕ) → length (fetched m a) ≤ 16
 unfolding fetched
-fetched-short m a = go (asked m a)
+fetched-short m a = fits (pagesFit m)
   where
     part : length (validWords m (entry m a)) ≤ 16
     part = part-short _ (entry m a) (codeOf (portAt m (entry m a) .master))
@@ -50,6 +50,10 @@ fetched-short m a = go (asked m a)
     go Held = part
     go Stale = part
     go (Refused n) = omega arith
+
+    fits : (b : Bool) → length (cond b (partFor (asked m a) (validWords m (entry m a))) []) ≤ 16
+    fits true = go (asked m a)
+    fits false = omega arith
 
 -- ---- what is replied
 

@@ -2,13 +2,15 @@
 -- anything else is turned away. Assumes nothing.
 use Prim.Native.Nat.{ℕ}
 use mathlib.Core.Path.{_≡_, refl, sym, ap}
-use mathlib.Core.Bool.{Bool, true, false, _&&_, true≢false, and-eq-true-iff}
+use mathlib.Core.Bool.{Bool, true, false, cond, _&&_, true≢false, and-eq-true-iff}
 use mathlib.Core.List.{List, [], _∷_}
 use Rattle.model.specs.declared.Answer.the-variants.{Refused}
 use Rattle.model.specs.declared.Controller.{Controller}
-use Rattle.model.specs.Layout.{Areas, areasFit}
+use Rattle.model.specs.Layout.{Areas, tablesFit, pagesFit, areasFit, entry}
+use Rattle.model.specs.Ports.{validWords}
 use Rattle.model.specs.Event.{World, world}
-use Rattle.model.specs.Calls.{Call, readPort, Test, areaTest, tests, refusal, Outcome, outcomeOf, outcome, freshOver, portRefusal, asked, fetched}
+use Rattle.model.specs.Calls.{Call, Test, areaTest, tests, refusal, Outcome, outcomeOf, outcome, freshOver, portRefusal, asked, partFor, fetched}
+use Rattle.model.proofs.Reading.{no-words}
 use Rattle.host_ports.specs.Host.{out, portAreas, hostCall}
 use Rattle.firmware_layout.specs.declared.FlatController.{FlatController}
 use Rattle.firmware_layout.specs.Controller.{controllerOf, ours}
@@ -26,15 +28,21 @@ pub host-unfit : (c : Call) (ts : List Test) (m : Areas) → tests c (freshOver 
 unfolding hostCall portAreas portRefusal outcome
 host-unfit c ts m e f = ap (λ (n : ℕ). out (outcomeOf n c (freshOver m) .world .areas) n) (sym (unfit c ts (freshOver m) e f))
 
--- and reading
-pub asked-unfit : (m : Areas) (a : ℕ) → areasFit m ≡ false → asked m a ≡ Refused 1
-unfolding asked portRefusal
-asked-unfit m a f = rw (unfit (readPort a) _ (freshOver m) refl f)
+-- asking is refused so where the index table or the port words have another length
+pub asked-unfit : (m : Areas) (a : ℕ) → tablesFit m ≡ false → asked m a ≡ Refused 1
+unfolding asked portRefusal refusal
+asked-unfit m a f = rw f
 
--- so fetching then hands back no words
+-- and fetching hands back no words where any area has
 pub fetched-unfit : (m : Areas) (a : ℕ) → areasFit m ≡ false → fetched m a ≡ []
-unfolding fetched
-fetched-unfit m a f = rw (asked-unfit m a f)
+unfolding fetched areasFit
+fetched-unfit m a f = go (tablesFit m) (pagesFit m) refl f
+  where
+    go : (tables pages : Bool) → tablesFit m ≡ tables → (tables && pages) ≡ false
+        → cond pages (partFor (asked m a) (validWords m (entry m a))) [] ≡ []
+    go true true e h = absurd (true≢false h)
+    go true false e h = refl
+    go false pages e h = rw (asked-unfit m a e) (no-words pages)
 
 -- ---- by what is given
 

@@ -9,7 +9,7 @@ use Rattle.interrupts.specs.declared.Group.{Group}
 use Rattle.model.specs.declared.Answer.{Answer}
 use Rattle.model.specs.declared.Answer.the-variants.{Never, Good, Held, Stale, Refused}
 use Rattle.model.specs.declared.Controller.{Controller}
-use Rattle.model.specs.Layout.{Areas, areasFit}
+use Rattle.model.specs.Layout.{Areas, pagesFit, areasFit}
 use Rattle.model.specs.Event.{world, padded, silent}
 use Rattle.model.specs.Host.{Setting}
 use Rattle.model.specs.Calls.{Call, Outcome, outcome, asked, fetched, refusalOf}
@@ -81,8 +81,13 @@ answerNumber Held = numberWith 0 2
 answerNumber Stale = numberWith 0 3
 answerNumber (Refused n) = numberWith n 0
 
+-- a number, and words with their count, zeros after them
+abbrev pub fetchedWith : ℕ → List ℕ → Fetched
+fetchedWith n ws = record { refusal = n; size = length ws; words = padded ws }
+
+-- fetching: 1 where a page has another length, else what asking answers; and the words
 unfoldable pub fetching : Areas → ℕ → Fetched
-fetching m a = record { refusal = refusalOf (asked m a); size = length (fetched m a); words = padded (fetched m a) }
+fetching m a = fetchedWith (cond (pagesFit m) (refusalOf (asked m a)) 1) (fetched m a)
 
 -- ---- settings
 

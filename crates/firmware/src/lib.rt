@@ -52,7 +52,7 @@ pub struct Number {
 #[repr(C)]
 pub struct Fetched {
     pub refusal: u16,
-    pub size: u16, // how many words; 0 where asking refuses or answers never
+    pub size: u16, // how many words; 0 where refused, or never filled
     pub words: [u16; 16], // zeros after them
 }
 

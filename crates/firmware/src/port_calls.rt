@@ -1,5 +1,7 @@
 // The host's calls on ports (document 01, "Host calls on ports"). The number of a refusal comes back, 0 where the call was accepted.
 ghost use mathlib.Core.Path.{_≡_};
+ghost use mathlib.Core.List.{[]};
+ghost use Rattle.model.specs.Layout.{areas};
 ghost use Rattle.model.specs.Calls.{openPort, closePort, writePort, asked, fetched, refusalOf};
 ghost use Rattle.areas.specs.Lent.{lent};
 ghost use Rattle.host_ports.specs.Host.{out, hostCall};
@@ -15,6 +17,7 @@ use firmware_layout::flags::is_bit;
 use firmware_layout::flags::is_set;
 use host_ports::calls;
 use logic::both;
+use logic::pick;
 use model::Answer;
 
 // Opens port p at address a, as a sink (1) or a source (0) of this F-code, with a data transfer interrupt or 0, and a limit in milliseconds or
@@ -127,28 +130,22 @@ fn answer_number(x: Answer) -> Number
 }
 
 // What asking answers; an area of another length is refused before anything is read of it.
-fn ask(index: &[u16], ports: &[u16], page0: &[u16], page1: &[u16], a: u16) -> Answer
-    ensures { λ r. ⌜ r ≡ asked (lent (index .entry) (ports .entry) (page0 .entry) (page1 .entry)) a ⌝ }
+fn ask(index: &[u16], ports: &[u16], a: u16) -> Answer
+    ensures { λ r. ⌜ r ≡ asked (areas (now (index .entry)) (now (ports .entry)) [] []) a ⌝ }
 {
-    let fit = layout::fits(index, ports, page0, page1);
+    let fit = layout::tables_fit(index, ports);
     if fit {
-        return calls::ask(index, ports, page0, page1, a);
+        return calls::ask(index, ports, a);
     }
     Answer::Refused(AREA)
 }
 
-// Asks for the state of the port at address a: 0 never, 1 good, 2 held, 3 stale.
+// Asks for the state of the port at address a, from the index table and the port words alone: 0 never, 1 good, 2 held, 3 stale.
 #[no_mangle]
-pub extern "C" fn tolvendrum_ask(
-    index: &[u16],
-    ports: &[u16],
-    page0: &[u16],
-    page1: &[u16],
-    a: u16,
-) -> Number
-    ensures { λ r. ⌜ r ≡ answerNumber (asked (lent (index .entry) (ports .entry) (page0 .entry) (page1 .entry)) a) ⌝ }
+pub extern "C" fn tolvendrum_ask(index: &[u16], ports: &[u16], a: u16) -> Number
+    ensures { λ r. ⌜ r ≡ answerNumber (asked (areas (now (index .entry)) (now (ports .entry)) [] []) a) ⌝ }
 {
-    answer_number(ask(index, ports, page0, page1, a))
+    answer_number(ask(index, ports, a))
 }
 
 // The number of a refusal, 0 for any other answer.
@@ -169,7 +166,8 @@ fn part<'a>(index: &[u16], ports: &[u16], page0: &'a [u16], page1: &'a [u16], a:
     &page0[..0]
 }
 
-// The valid words of the port at address a, copied out; none exactly when asking refuses or answers never.
+// The valid words of the port at address a, copied out; none exactly when asking refuses or answers never, or a page has another length. Such
+// a page is refused here with 1, though asking is not.
 #[no_mangle]
 pub extern "C" fn tolvendrum_fetch<'a>(
     index: &[u16],
@@ -180,7 +178,8 @@ pub extern "C" fn tolvendrum_fetch<'a>(
 ) -> Fetched
     ensures { λ r. ⌜ r ≡ fetching (lent (index .entry) (ports .entry) (page0 .entry) (page1 .entry)) a ⌝ }
 {
-    let refusal = refusal_of(ask(index, ports, page0, page1, a));
+    let fit = layout::pages_fit(page0, page1);
+    let refusal = pick(fit, refusal_of(ask(index, ports, a)), AREA);
     let part = part(index, ports, page0, page1, a);
     let mut words = [0u16; 16];
     store::copy(&mut words, 0, part);

@@ -1,11 +1,11 @@
--- An exported call whose arguments are no controller of ours, no hearings or no flags is turned away; and given a controller of ours a call
--- hands back one of ours. Assumes nothing.
+-- An exported call whose arguments are no controller of ours, no hearings or no flags is turned away, and so is fetching with a page of another
+-- length; and given a controller of ours a call hands back one of ours. Assumes nothing.
 use Prim.Native.Nat.{ℕ}
-use mathlib.Core.Path.{_≡_, refl, sym}
+use mathlib.Core.Path.{_≡_, refl, sym, _∙_, ap}
 use mathlib.Core.Bool.{Bool, true, false, cond, _&&_, true≢false}
 use native.Mathlib.Omega.{arith}
 use Rattle.frames.specs.declared.Hearing.{Hearing}
-use Rattle.model.specs.Layout.{Areas, areasFit}
+use Rattle.model.specs.Layout.{Areas, tablesFit, pagesFit, areasFit}
 use Rattle.model.specs.Event.{silent}
 use Rattle.model.specs.Host.{Setting}
 use Rattle.model.specs.Calls.{Call, hear, quiet, openPort, closePort, writePort, readPort, setting}
@@ -18,12 +18,14 @@ use Rattle.firmware_layout.specs.Hearing.{hearingOf}
 use Rattle.firmware_layout.proofs.Inverse.{same-hearing}
 use Rattle.firmware.specs.declared.FlatTold.{FlatTold}
 use Rattle.firmware.specs.declared.FlatReading.{FlatReading}
-use Rattle.firmware.specs.Promise.{awayNumber, FlatOutcome, leaves, through, openThrough, setThrough, readThrough}
+use Rattle.firmware.specs.declared.Fetched.{Fetched}
+use Rattle.firmware.specs.Promise.{awayNumber, FlatOutcome, leaves, through, openThrough, fetching, setThrough, readThrough}
 use Rattle.firmware.proofs.Handed.{reset-handed, call-handed, setting-handed, group-handed}
-use Rattle.firmware_demands.specs.Contracts.{Set, OnGroup}
+use Rattle.firmware_demands.specs.Contracts.{Fetches, Set, OnGroup}
 use Rattle.firmware_demands.specs.Called.{Called, by-hear, by-quiet, by-open, by-close, by-write, by-ask, by-fetch, by-reset, by-setting}
 use Rattle.firmware_demands.specs.Called.{by-group, groupCall, awayFrom}
-use Rattle.firmware_demands.proofs.Promised.{hears-promised, quiets-promised, opens-promised, resets-promised, set-promised, group-promised}
+use Rattle.firmware_demands.proofs.Promised.{hears-promised, quiets-promised, opens-promised, fetches-promised, resets-promised}
+use Rattle.firmware_demands.proofs.Promised.{set-promised, group-promised}
 
 -- ---- turned away
 
@@ -73,7 +75,24 @@ group-away : {f : FlatController} (m : Areas) (n : ℕ) (k : GroupCall) (r : Fla
 unfolding readThrough
 group-away m n k r o g = rw (group-promised o, g) (record { number = refl; reply = refl; controller = refl; areas = refl })
 
--- Where its arguments are no controller of ours, no hearings or no flags, an exported call is turned away.
+fetch-away : {f : FlatController} {m : Areas} {a : ℕ} (r : Fetched) → Fetches m a r → pagesFit m ≡ false
+    → TurnedAway f f m m (readPort a) (r .refusal) silent
+unfolding fetching areasFit
+fetch-away {m = m} r s t =
+    record {
+      number = ap (λ (x : Fetched). x .refusal) (fetches-promised s) ∙ one (tablesFit m) (pagesFit m) _ t;
+      reply = refl;
+      controller = refl;
+      areas = refl;
+    }
+  where
+    one : (tables pages : Bool) (n : ℕ) → pages ≡ false → cond pages n 1 ≡ cond (tables && pages) 2 1
+    one tables true n e = absurd (true≢false e)
+    one true false n e = refl
+    one false false n e = refl
+
+-- Where its arguments are no controller of ours, no hearings or no flags, or on fetching a page has another length, an exported call is
+-- turned away.
 pub called-away : {given : Bool} {f g : FlatController} {m m' : Areas} {c : Call} {n : ℕ} {h : Hearing} → Called given f m c n h g m'
     → given ≡ false → TurnedAway f g m m' c n h
 called-away (by-hear x y r s) t = through-away _ _ _ _ (leaves _ r) (hears-promised s) t refl
@@ -82,7 +101,7 @@ called-away {f = f} (by-open side {r = r} s) t = opened-away _ _ f _ (out _ r) (
 called-away (by-close s) t = absurd (true≢false t)
 called-away (by-write s) t = absurd (true≢false t)
 called-away (by-ask r s) t = absurd (true≢false t)
-called-away (by-fetch r s) t = absurd (true≢false t)
+called-away (by-fetch r s) t = fetch-away r s t
 called-away (by-reset s) t = absurd (true≢false t)
 called-away (by-setting r s) t = set-away _ r s t
 called-away (by-group n k r s) t = group-away _ n k r s t

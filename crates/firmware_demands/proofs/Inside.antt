@@ -135,7 +135,9 @@ called-made (by-close s) t = inner.by-close (closes-promised s)
 called-made (by-write s) t = inner.by-write (writes-promised s)
 called-made {m = m} (by-ask {a = a} r s) t =
     read-made _ a _ (answer-refusal (asked m a) ∙ ap (λ (x : Number). x .refusal) (sym (asks-promised s)))
-called-made (by-fetch {a = a} r s) t = read-made _ a _ (ap (λ (x : Fetched). x .refusal) (sym (fetches-promised s)))
+called-made {m = m} (by-fetch {a = a} r s) t =
+    read-made _ a _
+    (sym (ap (λ (x : Fetched). x .refusal) (fetches-promised s) ∙ ap (λ (fit : Bool). cond fit (refusalOf (asked m a)) 1) t))
 called-made (by-reset s) t = reset-made _ _ (resets-promised s)
 called-made (by-setting r s) t = set-made _ r s t
 called-made (by-group n k r s) t = group-made _ n k r s t

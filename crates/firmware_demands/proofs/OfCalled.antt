@@ -54,7 +54,8 @@ module _ {given : Bool} {f g : FlatController} {m m' : Areas} {c : Call} {n : �
   pub accepted-exactly : given ≡ true → (n ≡ 0) ↔ Silent (tests c before)
   accepted-exactly t = inner.accepted-exactly (called-made call t)
 
-  -- A call whose arguments are no controller of ours, no hearings or no flags answers 2, after 1 where areas are lent.
+  -- A call whose arguments are no controller of ours, no hearings or no flags answers 2, after 1 where areas are lent; fetching with a page of
+  -- another length answers 1.
   pub away-number : given ≡ false → n ≡ awayFrom c m
   away-number t = called-away call t .number
 

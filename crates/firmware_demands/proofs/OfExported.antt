@@ -10,16 +10,15 @@ use lib.ListN.{length}
 use Rattle.frames.specs.declared.Hearing.{Hearing}
 use Rattle.frames.specs.Hearing.{wordsOf}
 use Rattle.interrupts.specs.Names.{SFC}
-use Rattle.model.specs.Layout.{Areas, areasFit, portAt}
+use Rattle.model.specs.Layout.{Areas, portAt}
 use Rattle.model.specs.Lines.{LineBits}
 use Rattle.model.specs.Ports.{codeOf, addressOf, hasPorts, Standing, standing, view, oldest}
-use Rattle.model.specs.Event.{World, world, interruptOf, raiseAll, spoken}
+use Rattle.model.specs.Event.{world, interruptOf, raiseAll, spoken}
 use Rattle.model.specs.Calls.{Call, hear, quiet, openPort, closePort, writePort, readPort, setting}
 use Rattle.model.specs.Past.{Typed, onTrusted, firstWord, lastSettings, answers, Opening, openingOf, answersSince, writesSince, lastOf}
 use Rattle.model.specs.Past.{sourceTold, linesPolled, statusTold, replyIn, viewWith, toldView, takenIf}
 use Rattle.model.specs.Age.{ageSince}
 use Rattle.model.specs.Damage.{SoundMaster}
-use Rattle.model.proofs.Demands.{shaped}
 use Rattle.demands.specs.Made.{Made}
 use Rattle.demands.proofs.OfCode as demand
 use Rattle.firmware_layout.specs.declared.FlatController.{FlatController}
@@ -27,15 +26,11 @@ use Rattle.firmware_layout.specs.Controller.{controllerOf}
 use Rattle.firmware_demands.specs.Called.{Called, awayFrom}
 use Rattle.firmware_demands.specs.Exported.{Exported}
 use Rattle.firmware_demands.proofs.Inside.{called-made}
-use Rattle.firmware_demands.proofs.Stands.{ran, same}
+use Rattle.firmware_demands.proofs.Stands.{ran, fits}
 use Rattle.firmware_demands.proofs.OfCalled.{away-number, accepted-made}
 
 module _ {past : List Call} {f : FlatController} {m : Areas} (calls : Exported past f m) where
   -- ---- demand 1
-
-  -- in a sequence the areas keep their lengths
-  fits : areasFit m ≡ true
-  fits = subst (λ (s : World). areasFit (s .areas) ≡ true) (same calls) (shaped past (demand.ran (ran calls) .all) .fits)
 
   module _ {given : Bool} {g : FlatController} {m' : Areas} {c : Call} {n : ℕ} {h : Hearing} (call : Called given f m c n h g m') where
     -- In a sequence a call whose arguments are no hearings or no flags answers 2.
@@ -43,12 +38,12 @@ module _ {past : List Call} {f : FlatController} {m : Areas} (calls : Exported p
     away-range t = away-number call t ∙ go c
       where
         go : (x : Call) → awayFrom x m ≡ 2
-        go (hear a b) = rw fits
-        go (quiet k) = rw fits
-        go (openPort a p code sink i limit) = rw fits
-        go (closePort a) = rw fits
-        go (writePort a ws) = rw fits
-        go (readPort a) = rw fits
+        go (hear a b) = rw (fits calls)
+        go (quiet k) = rw (fits calls)
+        go (openPort a p code sink i limit) = rw (fits calls)
+        go (closePort a) = rw (fits calls)
+        go (writePort a ws) = rw (fits calls)
+        go (readPort a) = rw (fits calls)
         go (setting t) = refl
 
     -- In a sequence no call meets damage.

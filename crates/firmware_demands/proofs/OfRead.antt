@@ -16,13 +16,14 @@ use Rattle.interrupts.specs.Group.{active}
 use Rattle.model.specs.declared.Answer.{Answer}
 use Rattle.model.specs.declared.Answer.the-variants.{Never, Good, Held, Stale, Refused}
 use Rattle.model.specs.declared.Controller.{Controller}
-use Rattle.model.specs.Layout.{Areas, entry, portAt, flagsOf}
+use Rattle.model.specs.Layout.{Areas, pagesFit, entry, portAt, flagsOf}
 use Rattle.model.specs.Ports.{isHeld, tooOld, stateBy, stateOf}
 use Rattle.model.specs.Event.{padded, sent}
-use Rattle.model.specs.Calls.{Call, asked, refusalOf, fetched}
+use Rattle.model.specs.Calls.{Call, asked, refusalOf, ShowsNone, fetched}
 use Rattle.model.specs.Past.{after, Opening, openingOf, lastOf, fillings, shownWords, framesJudged, framesUnsound}
 use Rattle.model.specs.Age.{askedTold, IsStale}
 use Rattle.model.specs.Damage.{SoundMaster}
+use Rattle.model.proofs.Formed.{pages-fit}
 use Rattle.model.proofs.Reading.{asked-number}
 use Rattle.model.proofs.Replies.{sent-sound}
 use Rattle.areas.specs.Lent.{shown}
@@ -44,17 +45,17 @@ use Rattle.firmware_demands.specs.Exported.{Exported}
 use Rattle.firmware_demands.proofs.Promised.{checks-promised, asks-promised, fetches-promised, group-promised, fc-promised, ec-promised}
 use Rattle.firmware_demands.proofs.Promised.{line-promised}
 use Rattle.firmware_demands.proofs.Inside.{answer-refusal}
-use Rattle.firmware_demands.proofs.Stands.{stands, ran, same}
+use Rattle.firmware_demands.proofs.Stands.{stands, ran, same, fits}
 
 -- ---- what asking says, as numbers
 
 -- an answer that shows words is neither never nor a refusal
-shows-neither : (x : Answer) → shown x ≡ true → (x ≡ Never) ⊎ ((n : ℕ) × (x ≡ Refused n)) → ⊥
+shows-neither : (x : Answer) → shown x ≡ true → ShowsNone x → ⊥
 shows-neither x s (inl p) = true≢false (sym s ∙ ap shown p)
 shows-neither x s (inr (n, p)) = true≢false (sym s ∙ ap shown p)
 
 -- the state is 0 exactly for never and for a refusal
-value-zero : (x : Answer) → (answerNumber x .value ≡ 0) ↔ ((x ≡ Never) ⊎ ((n : ℕ) × (x ≡ Refused n)))
+value-zero : (x : Answer) → (answerNumber x .value ≡ 0) ↔ ShowsNone x
 value-zero Never = (λ e. inl refl, λ e. refl)
 value-zero Good = (λ e. absurd (omega arith), λ e. absurd (shows-neither Good refl e))
 value-zero Held = (λ e. absurd (omega arith), λ e. absurd (shows-neither Held refl e))
@@ -131,7 +132,7 @@ module _ {past : List Call} {f : FlatController} {m : Areas} (calls : Exported p
           (λ e. never .0 (only (zeros .0 e)), λ e. zeros .1 (inl (never .1 e))),
         )
       where
-        only : (asked m a ≡ Never) ⊎ ((n : ℕ) × (asked m a ≡ Refused n)) → asked m a ≡ Never
+        only : ShowsNone (asked m a) → asked m a ≡ Never
         only (inl p) = p
         only (inr (n, p)) = absurd (not-refused m a accepts n p)
 
@@ -151,24 +152,41 @@ module _ {past : List Call} {f : FlatController} {m : Areas} (calls : Exported p
         → let ws = shownWords (lastOf (fillings past a o)) in
         (r .refusal ≡ 0) × (r .size ≡ length ws) × (r .words ≡ padded ws)
     unfolding fetching
-    fetch-shows s = rw (fetches-promised s, demand.fetch-shows (ran calls) a o opened (fetched m a) refl) (accepts, refl, refl)
+    fetch-shows s =
+        rw (fetches-promised s, pages-fit m (fits calls), demand.fetch-shows (ran calls) a o opened (fetched m a) refl) (accepts, refl, refl)
 
 -- ---- in any memory
 
--- Whatever the areas hold, fetching hands back no word exactly when asking is refused or answers never.
-pub empty-exactly : {m : Areas} {a : ℕ} {r : Fetched} {q : Number} → Fetches m a r → Asks m a q → (r .size ≡ 0) ↔ (q .value ≡ 0)
+-- Whatever the areas hold, fetching hands back no word exactly when asking is refused or answers never, or a page has another length.
+pub empty-exactly : {m : Areas} {a : ℕ} {r : Fetched} {q : Number} → Fetches m a r → Asks m a q
+    → (r .size ≡ 0) ↔ ((q .value ≡ 0) ⊎ (pagesFit m ≡ false))
 unfolding fetching
 empty-exactly {m} {a} s t =
     let empty = demand.empty-exactly m a (fetched m a) (asked m a) refl refl in
-    let zeros = value-zero (asked m a) in
     rw (fetches-promised s, asks-promised t) (
-      λ e. zeros .1 (empty .0 (no-words (fetched m a) e)),
-      λ e. ap (λ (ws : List ℕ). length ws) (empty .1 (zeros .0 e)),
+      λ e. told (empty .0 (no-size (fetched m a) e)),
+      λ e. ap (λ (ws : List ℕ). length ws) (empty .1 (back e)),
     )
   where
-    no-words : (ws : List ℕ) → length ws ≡ 0 → ws ≡ []
-    no-words [] e = refl
-    no-words (w ∷ ws) e = absurd (omega arith)
+    no-size : (ws : List ℕ) → length ws ≡ 0 → ws ≡ []
+    no-size [] e = refl
+    no-size (w ∷ ws) e = absurd (omega arith)
+
+    told : ShowsNone (asked m a) ⊎ (pagesFit m ≡ false)
+        → (answerNumber (asked m a) .value ≡ 0) ⊎ (pagesFit m ≡ false)
+    told (inl e) = inl (value-zero (asked m a) .1 e)
+    told (inr e) = inr e
+
+    back : (answerNumber (asked m a) .value ≡ 0) ⊎ (pagesFit m ≡ false)
+        → ShowsNone (asked m a) ⊎ (pagesFit m ≡ false)
+    back (inl e) = inl (value-zero (asked m a) .0 e)
+    back (inr e) = inr e
+
+-- It answers 1 where a page has another length, and else the number that asking answers.
+pub fetch-number : {m : Areas} {a : ℕ} {r : Fetched} {q : Number} → Fetches m a r → Asks m a q
+    → r .refusal ≡ cond (pagesFit m) (q .refusal) 1
+unfolding fetching
+fetch-number {m} {a} s t = rw (fetches-promised s, asks-promised t, answer-refusal (asked m a))
 
 -- ---- the check bytes of a frame
 

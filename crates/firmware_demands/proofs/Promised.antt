@@ -1,13 +1,15 @@
 -- What each exported function promises, as its contract says it: each contract's own reading is taken for the equation that it is, so that a
 -- promise that says less is refused here. Assumes nothing.
 use Prim.Native.Nat.{ℕ}
-use mathlib.Core.Path.{_≡_}
+use mathlib.Core.Path.{_≡_, sym, _∙_, ap}
 use mathlib.Core.Bool.{Bool, _&&_}
 use mathlib.Core.List.{List}
+use denote.Ref.{now}
 use Rattle.interrupts.specs.Group.{active}
 use Rattle.model.specs.Layout.{Areas}
 use Rattle.model.specs.Host.{Setting, freshController}
 use Rattle.model.specs.Calls.{hear, quiet, openPort, closePort, writePort, asked}
+use Rattle.model.proofs.Asking.{asks-alone}
 use Rattle.host_ports.specs.Host.{out, hostCall}
 use Rattle.host_controller.specs.declared.GroupCall.{GroupCall}
 use Rattle.firmware_layout.specs.declared.FlatController.{FlatController}
@@ -61,7 +63,7 @@ writes-promised (writes κs i p z o words i' p' z' o' left e) = e
 
 -- Asking answers the state of the port at the address, as a number.
 pub asks-promised : {m : Areas} {a : ℕ} {r : Number} → Asks m a r → r ≡ answerNumber (asked m a)
-asks-promised (asks κs i p z o left e) = e
+asks-promised (asks κs i p z o {a} left e) = e ∙ ap answerNumber (sym (asks-alone (now i) (now p) z o a))
 
 -- Fetching answers its words.
 pub fetches-promised : {m : Areas} {a : ℕ} {r : Fetched} → Fetches m a r → r ≡ fetching m a

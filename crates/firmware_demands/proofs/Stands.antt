@@ -1,17 +1,18 @@
 -- A sequence of the exported calls is a sequence of the inner ones: the controller that the host holds is one of ours, and the controller it
 -- stands for, with the areas, is what the inner calls left that were accepted. Assumes nothing.
 use Prim.Native.Nat.{ℕ, zero, suc}
-use mathlib.Core.Path.{_≡_, refl, sym, _∙_, ap}
+use mathlib.Core.Path.{_≡_, refl, sym, _∙_, ap, subst}
 use mathlib.Core.Bool.{Bool, true, false}
 use mathlib.Core.List.{List, []}
 use native.Mathlib.Omega.{arith}
 use borrow.Author.Tests.{ne-eqb}
 use Rattle.frames.specs.declared.Hearing.{Hearing}
-use Rattle.model.specs.Layout.{Areas}
+use Rattle.model.specs.Layout.{Areas, areasFit}
 use Rattle.model.specs.Event.{World, world}
 use Rattle.model.specs.Host.{freshController}
 use Rattle.model.specs.Calls.{Call, clearedAreas, start}
 use Rattle.model.specs.Past.{after, Typed}
+use Rattle.model.proofs.Demands.{shaped}
 use Rattle.demands.specs.Made.{Made, Ran, begun, accepted, refused}
 use Rattle.demands.proofs.OfCode as demand
 use Rattle.firmware_layout.specs.declared.FlatController.{FlatController}
@@ -72,6 +73,10 @@ ran calls = stands calls .runs
 -- The accepted calls leave the world that the definitions tell.
 pub same : {past : List Call} {f : FlatController} {m : Areas} → Exported past f m → after past ≡ world (controllerOf f) m
 same calls = demand.ran (ran calls) .same
+
+-- The areas keep their lengths.
+pub fits : {past : List Call} {f : FlatController} {m : Areas} → Exported past f m → areasFit m ≡ true
+fits {past} calls = subst (λ (s : World). areasFit (s .areas) ≡ true) (same calls) (shaped past (demand.ran (ran calls) .all) .fits)
 
 -- What the host holds is told by the calls that were accepted alone: a refused call changes nothing of it.
 pub one-state : {past : List Call} {f g : FlatController} {m n : Areas} → Exported past f m → Exported past g n → (f ≡ g) × (m ≡ n)

@@ -5,7 +5,7 @@ use Prim.Native.Nat.{ℕ}
 use mathlib.Core.Bool.{Bool, _&&_}
 use mathlib.Core.List.{List}
 use denote.Ref.{now}
-use Rattle.model.specs.Layout.{Areas}
+use Rattle.model.specs.Layout.{Areas, areas}
 use Rattle.model.specs.Host.{Setting, address, status, replyTime, slm, ls, clearEC}
 use Rattle.areas.specs.Lent.{Slice, _&_, lent}
 use Rattle.host_controller.specs.declared.GroupCall.{GroupCall}
@@ -84,10 +84,10 @@ pub data Writes : Areas → ℕ → List ℕ → ℕ → Areas → Type 0 where
       → write-reads.Learnt κs (index & ports & page0 & page1 & a & words & tt) r (index' & ports' & page0' & page1' & left)
       → Writes (lent index ports page0 page1) a (now words) r (lent index ports' page0' page1')
 
--- the state of the port at address a was asked for
+-- the state of the port at address a was asked for, beside whatever pages there are
 pub data Asks : Areas → ℕ → Number → Type 0 where
-  asks : (κs : _) (index ports page0 page1 : Slice) {a : ℕ} {r : Number} (left : _)
-      → ask-reads.Learnt κs (index & ports & page0 & page1 & a & tt) r left → Asks (lent index ports page0 page1) a r
+  asks : (κs : _) (index ports : Slice) (page0 page1 : List ℕ) {a : ℕ} {r : Number} (left : _)
+      → ask-reads.Learnt κs (index & ports & a & tt) r left → Asks (areas (now index) (now ports) page0 page1) a r
 
 -- and its words
 pub data Fetches : Areas → ℕ → Fetched → Type 0 where

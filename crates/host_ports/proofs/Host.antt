@@ -8,14 +8,15 @@ use borrow.Author.Tests.{eqb-true}
 use lib.Dec.{eqb}
 use Rattle.model.specs.declared.Answer.{Answer}
 use Rattle.model.specs.declared.Answer.the-variants.{Never, Good, Held, Stale, Refused}
-use Rattle.model.specs.Layout.{Areas, entry}
+use Rattle.model.specs.Layout.{Areas, areas, tablesFit, pagesFit, areasFit, entry}
 use Rattle.model.specs.Ports.{validWords}
 use Rattle.model.specs.Calls.{Call, openPort, closePort, writePort, readPort, outOfRange, refusal, step, outcomeOf, outcome, freshOver}
 use Rattle.model.specs.Calls.{portRefusal, asked, partFor, fetched}
 use Rattle.model.proofs.Refused.{accepted}
 use Rattle.model.proofs.Accepted.{InRange, open-range}
+use Rattle.model.proofs.Asking.{asks-alone, pages-alone}
 use Rattle.areas.specs.Lent.{shown}
-use Rattle.host_ports.specs.Host.{out, portAreas, hostCall, openRefusal, reached, writeRefusal}
+use Rattle.host_ports.specs.Host.{out, portAreas, hostCall, handsBack, openRefusal, reached, writeRefusal}
 
 -- opening is refused as `openRefusal` writes it out
 pub open-number : (m : Areas) (a p code : ℕ) (sink : Bool) (i limit : ℕ)
@@ -35,13 +36,13 @@ excused : (none ill : Bool) (n : ℕ) → cond none 3 (cond (not none && ill) 6 
 excused true ill n = refl
 excused false ill n = refl
 
--- reading is refused as `reached` writes it out, and tests nothing more of its port
-pub read-number : (m : Areas) (a : ℕ) → portRefusal (readPort a) m ≡ reached m a 0
+-- asking is refused as `reached` writes it out, by the lengths of its two areas, and tests nothing more of its port
+pub read-number : (m : Areas) (a : ℕ) → portRefusal (readPort a) m ≡ reached (tablesFit m) m a 0
 unfolding portRefusal refusal reached
 read-number m a = rw excused
 
--- closing is refused as reading is
-pub close-number : (m : Areas) (a : ℕ) → portRefusal (closePort a) m ≡ reached m a 0
+-- closing is refused so too, by the lengths of all four
+pub close-number : (m : Areas) (a : ℕ) → portRefusal (closePort a) m ≡ reached (areasFit m) m a 0
 unfolding portRefusal refusal reached
 close-number m a = rw excused
 
@@ -64,7 +65,7 @@ module _ (c : Call) (m : Areas) {k n : ℕ} (number : portRefusal c m ≡ k) (e 
   pub refused : eqb n 0 ≡ false → out m n ≡ hostCall c m
   refused z = rw z at by-number
 
--- fetching hands back words exactly where the answer shows them
+-- the part for an answer is the words exactly where the answer shows them
 parts : (x : Answer) (ws : List ℕ) → cond (shown x) ws [] ≡ partFor x ws
 parts Never ws = refl
 parts Good ws = refl
@@ -72,8 +73,17 @@ parts Held ws = refl
 parts Stale ws = refl
 parts (Refused n) ws = refl
 
--- the code's test for showing the port's words gives what is fetched
-pub fetch-shown : (m : Areas) (a : ℕ) {x : Answer} {b : Bool} → x ≡ asked m a → b ≡ shown x
-    → cond b (validWords m (entry m a)) [] ≡ fetched m a
+-- the code's tests give whether words are handed back
+pub hands-back : (i p z o : List ℕ) (a : ℕ) {x : Answer} {fit show both : Bool} → fit ≡ pagesFit (areas [] [] z o)
+    → x ≡ asked (areas i p [] []) a → show ≡ shown x → both ≡ (fit && show) → both ≡ handsBack (areas i p z o) a
+hands-back i p z o a f e s b = rw (b, s, e, f, pages-alone i p z o, asks-alone i p z o a)
+
+-- and by it the valid words, or none, are what is fetched
+pub fetch-shown : (m : Areas) (a : ℕ) {b : Bool} → b ≡ handsBack m a → cond b (validWords m (entry m a)) [] ≡ fetched m a
 unfolding fetched
-fetch-shown m a e d = rw (d, e) (parts (asked m a) (validWords m (entry m a)))
+fetch-shown m a e = rw e (go (pagesFit m))
+  where
+    go : (fit : Bool)
+        → cond (fit && shown (asked m a)) (validWords m (entry m a)) [] ≡ cond fit (partFor (asked m a) (validWords m (entry m a))) []
+    go true = parts (asked m a) (validWords m (entry m a))
+    go false = refl

@@ -1,20 +1,22 @@
-// The host's calls on ports. Each is lent the four areas; `&mut` are those that it may change. The number of a refusal comes back, 0 where
-// the call was accepted; a refused call changes nothing.
+// The host's calls on ports. Each is lent the four areas, but for asking, which is lent the index table and the port words; `&mut` are those
+// that it may change. The number of a refusal comes back, 0 where the call was accepted; a refused call changes nothing.
 ghost use mathlib.Core.Path.{_≡_};
 ghost use mathlib.Core.Bool.{true};
+ghost use mathlib.Core.List.{[]};
 ghost use lib.ListN.{getD};
-ghost use Rattle.model.specs.Layout.{wordsAt, flagsOf};
+ghost use Rattle.model.specs.Layout.{areas, wordsAt, flagsOf};
 ghost use Prim.Native.Nat.{_≤_};
 ghost use Rattle.model.specs.Ports.{openWords};
 ghost use Rattle.model.specs.Calls.{openPort, closePort, writePort, readPort, portRefusal, asked, refusalOf, fetched};
-ghost use Rattle.areas.specs.Lent.{lent, shown, validLent, Lies};
-ghost use Rattle.host_ports.specs.Host.{out, hostCall};
+ghost use Rattle.areas.specs.Lent.{lent, validLent, Lies};
+ghost use Rattle.host_ports.specs.Host.{out, hostCall, handsBack};
 use crate::refusal;
 use areas::layout;
 use areas::pick::pick_answer;
 use areas::port;
 use areas::store;
 use constants::CODE_UNIT;
+use logic::both;
 use model::Answer;
 use model::Flags;
 use model::Words;
@@ -80,7 +82,7 @@ pub fn close(index: &mut [u16], ports: &mut [u16], page0: &[u16], page1: &[u16],
         hostCall (closePort a) (lent (index .entry) (ports .entry) (page0 .entry) (page1 .entry))
         ⌝ }
 {
-    let no = refusal::reach(index, ports, page0, page1, a, 0);
+    let no = refusal::of_close(index, ports, page0, page1, a);
     let ok = no == 0;
     if ok {
         let p = layout::get(index, a as usize);
@@ -123,20 +125,18 @@ pub fn write(
     no
 }
 
-// Asks for the state of the port at address a.
-pub fn ask(index: &[u16], ports: &[u16], page0: &[u16], page1: &[u16], a: u16) -> Answer
-    ensures { λ r. ⌜ r ≡ asked (lent (index .entry) (ports .entry) (page0 .entry) (page1 .entry)) a ⌝ }
-    ensures number { λ r. ⌜
-        refusalOf r ≡ portRefusal (readPort a) (lent (index .entry) (ports .entry) (page0 .entry) (page1 .entry))
-        ⌝ }
+// Asks for the state of the port at address a; the pages are not asked.
+pub fn ask(index: &[u16], ports: &[u16], a: u16) -> Answer
+    ensures { λ r. ⌜ r ≡ asked (areas (now (index .entry)) (now (ports .entry)) [] []) a ⌝ }
+    ensures number { λ r. ⌜ refusalOf r ≡ portRefusal (readPort a) (areas (now (index .entry)) (now (ports .entry)) [] []) ⌝ }
 {
-    let no = refusal::reach(index, ports, page0, page1, a, 0);
+    let no = refusal::of_ask(index, ports, a);
     let w = layout::get_port(ports, layout::get(index, a as usize));
     let state = port::state_of(w);
     pick_answer(no == 0, state, Answer::Refused(no))
 }
 
-// The valid words of the port at address a; none exactly when asking refuses or answers never.
+// The valid words of the port at address a; none exactly when asking refuses or answers never, or a page has another length.
 pub fn fetch<'a>(
     index: &[u16],
     ports: &[u16],
@@ -146,13 +146,15 @@ pub fn fetch<'a>(
 ) -> &'a [u16]
     ensures { λ r. ⌜ now r ≡ fetched (lent (index .entry) (ports .entry) (page0 .entry) (page1 .entry)) a ⌝ }
     ensures place { λ r. ⌜
-        (shown (asked (lent (index .entry) (ports .entry) (page0 .entry) (page1 .entry)) a) ≡ true → Lies r
+        (handsBack (lent (index .entry) (ports .entry) (page0 .entry) (page1 .entry)) a ≡ true → Lies r
         (validLent (page0 .entry) (page1 .entry) (flagsOf (wordsAt (now (ports .entry)) (getD (now (index .entry)) a 0) .flags)))
         (getD (now (index .entry)) a 0))
         ⌝ }
 {
-    let show = port::shows(ask(index, ports, page0, page1, a));
-    if show {
+    let fit = layout::pages_fit(page0, page1);
+    let shows = port::shows(ask(index, ports, a));
+    let hands_back = both(fit, shows);
+    if hands_back {
         let p = layout::get(index, a as usize);
         return port::valid_words(ports, page0, page1, p);
     }

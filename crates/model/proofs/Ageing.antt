@@ -14,7 +14,7 @@ use lib.ListN.{length}
 use Rattle.model.specs.declared.Words.{Words}
 use Rattle.model.specs.declared.Faults.{Faults}
 use Rattle.model.specs.declared.Sought.the-variants.{Nothing, Damaged, Port}
-use Rattle.model.specs.Layout.{Areas, areas, stride, areasFit, entry, wordsAt, withWords, portAt, withPort, flagsOf}
+use Rattle.model.specs.Layout.{Areas, areas, stride, tablesFit, pagesFit, areasFit, entry, wordsAt, withWords, portAt, withPort, flagsOf}
 use Rattle.model.specs.Ports.{wellFormed, seek, standingOf, seen, standing, oldest, faulty, markedWords, mark, apply}
 use Rattle.model.specs.Ports.{openSink, withAge, agedWords, agedTo, aged}
 use Rattle.model.specs.Taken.{ageless, ButAges}
@@ -116,7 +116,7 @@ module _ {m n : Areas} (b : ButAges m n) where
 
   -- the areas keep their lengths
   pub fits-ages : areasFit m ≡ true → areasFit n ≡ true
-  unfolding areasFit
+  unfolding areasFit tablesFit pagesFit
   fits-ages f = rw (b .index, b .long, b .page0, b .page1) f
 
   -- a part of port words that is not the age is the same
@@ -221,7 +221,7 @@ words-marked k a w x e =
 
 -- a port's words written anew leave the areas their lengths
 pub port-fits : (m : Areas) (p : ℕ) (w : Words) → areasFit m ≡ true → areasFit (withPort m p w) ≡ true
-unfolding areasFit
+unfolding areasFit tablesFit pagesFit
 port-fits m p w f = rw (length-with (m .ports) p w) f
 
 -- Ageing and a mark of a port with well formed words, in either order, leave the same areas.

@@ -9,7 +9,7 @@ use native.Mathlib.Omega.{arith}
 use lib.Dec.{eqb, ltb}
 use borrow.Author.Tests.{eqb-true, eqb-false, eq-eqb, ne-eqb, le-ltb}
 use Rattle.frames.specs.Hearing.{inRange}
-use Rattle.model.specs.Layout.{Areas, areasFit, entry, portAt, flagsOf}
+use Rattle.model.specs.Layout.{Areas, tablesFit, areasFit, entry, portAt, flagsOf}
 use Rattle.model.specs.Ports.{addressOf, wellFormed, Standing, standingOf, standing}
 use Rattle.model.specs.Event.{World, heardBy}
 use Rattle.model.specs.Quiet.{dueWithin}
@@ -17,7 +17,7 @@ use Rattle.model.specs.Calls.{Call, hear, quiet, openPort, closePort, wr
 use Rattle.model.specs.Calls.{refusalNumber, Test, entryAbove, illFormed, sideTest, sizeTest}
 use Rattle.model.specs.Calls.{openOut, neededFor, wordOfHeard, atPort, onBus, tests, firstOf, refusal, Silent}
 use Rattle.model.proofs.Shape.{Shape, Leads}
-use Rattle.model.proofs.Formed.{formed-used}
+use Rattle.model.proofs.Formed.{tables-fit, formed-used}
 use Rattle.model.proofs.Accepted.{open-range, open-at}
 use Rattle.model.proofs.Same.{Alike, same-entry}
 
@@ -48,13 +48,17 @@ module _ (m : Areas) (shape : Shape m) where
   fits-in : not (areasFit m) ≡ false
   fits-in = rw (shape .fits)
 
+  -- the two areas that asking is lent have their lengths
+  pub tables-in : not (tablesFit m) ≡ false
+  tables-in = rw (tables-fit m (shape .fits))
+
   -- of a bus event or quiet time whose arguments are in range no test holds
   pub bus-in : (out : Bool) (w : Option ℕ) → out ≡ false → Silent (onBus m out w)
   bus-in out w e = (fits-in, (e, (no-above m shape (neededFor w), (no-ill m shape (neededFor w), tt))))
 
   -- nor of a call in range whose address has an entry, if none of the tests that it adds for the port holds
   pub port-in : (a : ℕ) (more : List Test) → ltb 4095 a ≡ false → eqb (entry m a) 0 ≡ false → Silent more → Silent (atPort m a more)
-  port-in a more e there s = (fits-in, (e, (no-above m shape (some a), (there, (no-ill m shape (some a), s)))))
+  port-in a more e there s = (e, (no-above m shape (some a), (there, (no-ill m shape (some a), s))))
 
   -- a bus event or quiet time answers 2 with arguments out of range, else 0
   bus-first : (out : Bool) (w : Option ℕ) → firstOf (onBus m out w) ≡ cond out 2 0
@@ -63,7 +67,7 @@ module _ (m : Areas) (shape : Shape m) where
   -- a call on a port answers 2 out of range, else 3 without an entry, else what the tests that it adds say
   pub port-first : (a : ℕ) (more : List Test)
       → firstOf (atPort m a more) ≡ cond (ltb 4095 a) 2 (cond (eqb (entry m a) 0) 3 (firstOf more))
-  port-first a more = rw (shape .fits, no-above m shape (some a), no-ill m shape (some a))
+  port-first a more = rw (no-above m shape (some a), no-ill m shape (some a))
 
 -- no test with the number 6 holds
 abbrev Whole : List Test → Type 0
@@ -84,15 +88,15 @@ module _ (s : World) (shape : Shape (s .areas)) where
   bus-whole out w = (refl, (refl, (no-above _ shape (neededFor w), (no-ill _ shape (neededFor w), tt))))
 
   port-whole : (a : ℕ) (more : List Test) → Whole more → Whole (atPort (s .areas) a more)
-  port-whole a more w = (refl, (refl, (no-above _ shape (some a), (refl, (no-ill _ shape (some a), w)))))
+  port-whole a more w = (refl, (no-above _ shape (some a), (refl, (no-ill _ shape (some a), w))))
 
   whole : (c : Call) → Whole (tests c s)
   whole (hear a b) = bus-whole (not (inRange a) || not (inRange b)) (wordOfHeard (heardBy (s .controller) a b))
   whole (quiet n) = bus-whole (ltb 65535 n) (dueWithin n s)
   whole (openPort a p code sink i limit) = (refl, (refl, (no-above _ shape (some a), (refl, tt))))
-  whole (closePort a) = port-whole a [] tt
-  whole (writePort a ws) = port-whole a (sideTest (s .areas) a ∷ sizeTest (s .areas) a ws ∷ []) (refl, (refl, tt))
-  whole (readPort a) = port-whole a [] tt
+  whole (closePort a) = (refl, port-whole a [] tt)
+  whole (writePort a ws) = (refl, port-whole a (sideTest (s .areas) a ∷ sizeTest (s .areas) a ws ∷ []) (refl, (refl, tt)))
+  whole (readPort a) = (refl, port-whole a [] tt)
   whole (setting t) = (refl, tt)
 
   -- No call is refused with 6 where the areas have their shape.
@@ -196,10 +200,11 @@ module _ (s u : World) (k : Alike (s .areas) (u .areas)) where
           (cond r 2 (cond (not (eqb (entry N a) 0) || not (eqb (portAt N p .flags) 0)) 4 0))
       go true e = refl
       go false e = let o = open-range a p code i e in rw (flags-same p (o .some-port) (o .port))
-  refuses-same (closePort a) = port-same a [] [] (λ there. refl)
+  refuses-same (closePort a) = rw (k .shape .fits, shape .fits) (port-same a [] [] (λ there. refl))
   refuses-same (writePort a ws) =
-      port-same a (sideTest M a ∷ sizeTest M a ws ∷ []) (sideTest N a ∷ sizeTest N a ws ∷ []) (λ there. rw (side-same a there, word-same a there))
-  refuses-same (readPort a) = port-same a [] [] (λ there. refl)
+      rw (k .shape .fits, shape .fits)
+      (port-same a (sideTest M a ∷ sizeTest M a ws ∷ []) (sideTest N a ∷ sizeTest N a ws ∷ []) (λ there. rw (side-same a there, word-same a there)))
+  refuses-same (readPort a) = rw (tables-in M (k .shape), tables-in N shape) (port-same a [] [] (λ there. refl))
   refuses-same (setting t) = refl
 
   -- so what one of them accepts the other accepts

@@ -13,7 +13,7 @@ use lib.Dec.{eqb}
 use lib.ListN.{length, getD, set, length-set}
 use lib.Seq.{getD-set-same, getD-set-other}
 use Rattle.model.specs.declared.Words.{Words}
-use Rattle.model.specs.Layout.{Areas, areas, stride, areasFit, entry, place, withWords, portAt, flagsOf, partOf, withPart}
+use Rattle.model.specs.Layout.{Areas, areas, stride, tablesFit, pagesFit, areasFit, entry, place, withWords, portAt, flagsOf, partOf, withPart}
 use Rattle.model.specs.declared.Flags.{Flags}
 use Rattle.model.specs.Ports.{validPage, codeOf, addressOf, sizeOf, wellFormed, Standing, standingOf, standing}
 use Rattle.model.proofs.Shape.{Leads, Shape}
@@ -83,7 +83,7 @@ pub record Changed (m n : Areas) (a p e : ℕ) (w : Words) : Type 0 where
 -- areas put together of such a table, the new words of port p and such pages are changed so
 pub changed : {m : Areas} {a p e : ℕ} {w : Words} {i x y : List ℕ} → Shape m → Own m a p → EntrySet (m .index) i a e
     → PartSet p (m .page0) x → PartSet p (m .page1) y → After a p e w → Changed m (areas i (withWords (m .ports) p w) x y) a p e w
-unfolding areasFit
+unfolding areasFit tablesFit pagesFit
 changed {m} {p = p} {w = w} s own index page0 page1 after =
     let inside : place p + stride ≤ length (m .ports) = omega (arith, own .small, lengths m (s .fits) .ports) in
     record {

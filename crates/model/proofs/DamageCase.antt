@@ -15,7 +15,7 @@ use Rattle.frames.specs.declared.Hearing.{Hearing}
 use Rattle.frames.specs.Hearing.{wordsOf}
 use Rattle.frames.specs.Size.{sizes, expectedOf}
 use Rattle.frames.specs.Judge.{countsRight, rightAt, wrongAt, wrongOf, judged, judgedMaster, judgedSlave}
-use Rattle.model.specs.Layout.{areasFit, wordsAt, withWords, portAt, bitAt, flagsOf, wordOf, zeroBits}
+use Rattle.model.specs.Layout.{tablesFit, pagesFit, areasFit, wordsAt, withWords, portAt, bitAt, flagsOf, wordOf, zeroBits}
 use Rattle.model.specs.Ports.{wellFormed, seek, standingOf, standing, openWords, markedWords, apply}
 use Rattle.model.specs.Lines.{rule1, rule2, rule3, rule4, rule5}
 use Rattle.model.specs.Event.{heard, portFor, answerTo, exchangeFor, heardBy, event, hearController, hearEffect}
@@ -75,7 +75,7 @@ pub record Case : Type 0 where
 
 -- The case holds: both runs are computed.
 pub case : Case
-unfolding waitingAddress finishes doubtful awaited after step event hearController heardBy heard judgedMaster judgedSlave judged countsRight wrongOf wrongAt rightAt checkAt checkOf rest pushes push onesOf ones blocks wordsOf expectedOf sizes replyTold openingOf writesSince effect hearEffect start freshController clearedAreas areasFit wordsAt withWords bitAt flagsOf wordOf zeroBits wellFormed seek standingOf standing openWords markedWords apply rule1 rule2 rule3 rule4 rule5 portFor answerTo exchangeFor pulseEffect pulseController pulse grown tick ticks refusal dueWithin lastSettings
+unfolding waitingAddress finishes doubtful awaited after step event hearController heardBy heard judgedMaster judgedSlave judged countsRight wrongOf wrongAt rightAt checkAt checkOf rest pushes push onesOf ones blocks wordsOf expectedOf sizes replyTold openingOf writesSince effect hearEffect start freshController clearedAreas areasFit tablesFit pagesFit wordsAt withWords bitAt flagsOf wordOf zeroBits wellFormed seek standingOf standing openWords markedWords apply rule1 rule2 rule3 rule4 rule5 portFor answerTo exchangeFor pulseEffect pulseController pulse grown tick ticks refusal dueWithin lastSettings
 case =
     record {
       run = (tt, refl, ((refl, refl), refl, ((refl, refl), refl, ((refl, refl), refl, (tt, refl, tt)))));

@@ -12,7 +12,7 @@ use Rattle.frames.proofs.Sizes.{longest}
 use Rattle.model.specs.declared.Words.{Words}
 use Rattle.model.specs.declared.Flags.{Flags}
 use Rattle.model.specs.declared.Faults.{Faults}
-use Rattle.model.specs.Layout.{Areas, stride, areasFit, place, bitAt, flagsOf, wordOf, zeroBits}
+use Rattle.model.specs.Layout.{Areas, stride, tablesFit, pagesFit, areasFit, place, bitAt, flagsOf, wordOf, zeroBits}
 use Rattle.model.specs.Ports.{codeOf, addressOf, wordsIn, sizeOf, oneSide, wellFormed, noFaults, turned, filledWords, faulty}
 use Rattle.model.specs.Ports.{markedWords, openWords}
 use Rattle.model.proofs.Bits.{flags-of-word, zero-bits}
@@ -33,15 +33,31 @@ pub record Lengths (m : Areas) : Type 0 where
   pub page0 : length (m .page0) ≡ 4096
   pub page1 : length (m .page1) ≡ 4096
 
+-- areas that fit: the index table and the port words do
+pub tables-fit : (m : Areas) → areasFit m ≡ true → tablesFit m ≡ true
+unfolding areasFit
+tables-fit m e = and-left (tablesFit m) (pagesFit m) e
+
+-- and so do both pages
+pub pages-fit : (m : Areas) → areasFit m ≡ true → pagesFit m ≡ true
+unfolding areasFit
+pages-fit m e = and-right (tablesFit m) (pagesFit m) e
+
+-- pages that fit have these lengths
+pub page-lengths : (m : Areas) → pagesFit m ≡ true → (length (m .page0) ≡ 4096) × (length (m .page1) ≡ 4096)
+unfolding pagesFit
+page-lengths m e =
+    (eqb-true (length (m .page0)) 4096 (search (and-left, and-right)), eqb-true (length (m .page1)) 4096 (search (and-left, and-right)))
+
 -- areas that fit have these lengths
 pub lengths : (m : Areas) → areasFit m ≡ true → Lengths m
-unfolding areasFit
+unfolding areasFit tablesFit
 lengths m e =
     record {
       index = eqb-true (length (m .index)) 4096 (search (and-left, and-right));
       ports = eqb-true (length (m .ports)) (stride * 256) (search (and-left, and-right));
-      page0 = eqb-true (length (m .page0)) 4096 (search (and-left, and-right));
-      page1 = eqb-true (length (m .page1)) 4096 (search (and-left, and-right));
+      page0 = page-lengths m (pages-fit m e) .0;
+      page1 = page-lengths m (pages-fit m e) .1;
     }
 
 -- there is room for the words of every port

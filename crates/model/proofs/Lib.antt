@@ -35,6 +35,7 @@ pub mod MayDiffer
 pub mod Settled
 pub mod DamageCase
 pub mod Reading
+pub mod Asking
 pub mod Replies
 pub mod Anywhere
 pub mod Empty

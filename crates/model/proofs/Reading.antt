@@ -13,12 +13,18 @@ use Rattle.model.specs.declared.Answer.the-variants.{Never, Stale, Refus
 use Rattle.model.specs.declared.Words.{Words}
 use Rattle.model.specs.Layout.{Areas, entry, portAt, flagsOf}
 use Rattle.model.specs.Ports.{Standing, standingOf, standing, validWords, isHeld, tooOld, stateBy, stateOf}
-use Rattle.model.specs.Calls.{readPort, atPort, firstOf, refusal, freshOver, portRefusal, asked, refusalOf, partFor, fetched}
+use Rattle.model.specs.Calls.{readPort, tableTest, atPort, firstOf, refusal, freshOver, portRefusal, asked, refusalOf, partFor, fetched}
 use Rattle.model.specs.Past.{lastOf, shownWords}
 use Rattle.model.proofs.Shape.{Shape}
 use Rattle.model.proofs.Standings.{standing-at, none-entry}
 use Rattle.model.proofs.Refused.{accepts}
-use Rattle.model.proofs.Alike.{port-in, port-first}
+use Rattle.model.proofs.Formed.{pages-fit}
+use Rattle.model.proofs.Alike.{tables-in, port-in, port-first}
+
+-- no words, whatever is tested
+pub no-words : (b : Bool) → _≡_ {A = List ℕ} (cond b [] []) []
+no-words true = refl
+no-words false = refl
 
 -- the last of no words is none, and of none but these
 pub last-none : (l : List (List ℕ)) → (lastOf l ≡ none) ↔ (l ≡ [])
@@ -32,7 +38,7 @@ unfolding asked portRefusal refusal
 asks-closed m shape a low e =
     let range : ltb 4095 a ≡ false = le-ltb 4095 a (omega arith) in
     let there : eqb (entry m a) 0 ≡ true = eq-eqb (entry m a) 0 (none-entry m a shape e) in
-    let number : firstOf (atPort m a []) ≡ 3 = port-first m shape a [] ∙ rw (range, there) in
+    let number : firstOf (tableTest m ∷ atPort m a []) ≡ 3 = rw (tables-in m shape) (port-first m shape a [] ∙ rw (range, there)) in
     rw number
 
 -- what holds whatever the three tests of a state say holds of each port's words
@@ -105,7 +111,7 @@ module _ (m : Areas) (shape : Shape m) (a : ℕ) (v : Standing) (seen : standing
       let at = standing-at m a v seen in
       let range : ltb 4095 a ≡ false = le-ltb 4095 a (omega (arith, at .address)) in
       let there : eqb (entry m a) 0 ≡ false = ne-eqb (entry m a) 0 (λ z. omega (arith, at .positive, at .port)) in
-      accepts (readPort a) (freshOver m) (port-in m shape a [] range there tt)
+      accepts (readPort a) (freshOver m) (tables-in m shape, port-in m shape a [] range there tt)
 
   -- the port is seen whole
   pub whole : v .shows ≡ cond (flagsOf (portAt m (entry m a) .flags) .ever) (some (validWords m (entry m a))) none
@@ -122,4 +128,4 @@ module _ (m : Areas) (shape : Shape m) (a : ℕ) (v : Standing) (seen : standing
   -- fetching hands back the words that the port shows, and nothing where it shows none
   pub fetches : fetched m a ≡ shownWords (v .shows)
   unfolding asked fetched
-  fetches = rw (readable, whole) (part-shown (portAt m (entry m a)) (validWords m (entry m a)))
+  fetches = rw (pages-fit m (shape .fits), readable, whole) (part-shown (portAt m (entry m a)) (validWords m (entry m a)))

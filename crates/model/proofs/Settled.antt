@@ -16,9 +16,9 @@ use Rattle.model.specs.declared.Answer.the-variants.{Refused}
 use Rattle.model.specs.declared.Flags.{Flags}
 use Rattle.model.specs.declared.Words.{Words}
 use Rattle.model.specs.Layout.{Areas, entry, portAt, flagsOf}
-use Rattle.model.specs.Ports.{codeOf, validWords, isHeld, tooOld, stateBy, stateOf, Standing, standing}
+use Rattle.model.specs.Ports.{codeOf, isHeld, tooOld, stateBy, stateOf, Standing, standing}
 use Rattle.model.specs.Event.{World}
-use Rattle.model.specs.Calls.{Call, hear, readPort, noPort, freshOver, portRefusal, refusal, answer, asked, partFor, fetched}
+use Rattle.model.specs.Calls.{Call, hear, readPort, noPort, freshOver, portRefusal, refusal, answer, asked, fetched}
 use Rattle.model.specs.Past.{after, Accepted, firstWord}
 use Rattle.model.specs.Taken.{ageless, ButAges}
 use Rattle.model.specs.Damage.{Damage, SoundMaster}
@@ -29,6 +29,7 @@ use Rattle.model.proofs.Formed.{lengths}
 use Rattle.model.proofs.Refused.{accepted}
 use Rattle.model.proofs.Standings.{none-entry}
 use Rattle.model.proofs.Reading.{fetches}
+use Rattle.model.proofs.Empty.{empty-exactly}
 use Rattle.model.proofs.Same.{Alike, same-entry}
 use Rattle.model.proofs.Alike.{refuses-same}
 use Rattle.model.proofs.Told.{past-told}
@@ -89,16 +90,19 @@ asked-but m n k o b a x =
 
 -- ---- fetching
 
--- nothing is fetched where no port stands
-closed-empty : (m : Areas) (a : ℕ) → entry m a ≡ 0 → fetched m a ≡ []
-unfolding fetched asked portRefusal
-closed-empty m a z = go (eqb (refusal (readPort a) (freshOver m)) 0) refl
+-- asking refuses where no port stands
+closed-refused : (m : Areas) (a : ℕ) → entry m a ≡ 0 → (n : ℕ) × (asked m a ≡ Refused n)
+unfolding asked portRefusal
+closed-refused m a z = go (eqb (refusal (readPort a) (freshOver m)) 0) refl
   where
     go : (b : Bool) → eqb (refusal (readPort a) (freshOver m)) 0 ≡ b
-        → partFor (cond b (stateOf (portAt m (entry m a))) (Refused (refusal (readPort a) (freshOver m))))
-        (validWords m (entry m a)) ≡ []
+        → (n : ℕ) × (cond b (stateOf (portAt m (entry m a))) (Refused (refusal (readPort a) (freshOver m))) ≡ Refused n)
     go true e = absurd (true≢false (sym (eq-eqb _ 0 z) ∙ accepted (readPort a) (freshOver m) (eqb-true _ _ e) noPort))
-    go false e = refl
+    go false e = (refusal (readPort a) (freshOver m), refl)
+
+-- so nothing is fetched there
+closed-empty : (m : Areas) (a : ℕ) → entry m a ≡ 0 → fetched m a ≡ []
+closed-empty m a z = empty-exactly m a .1 (inl (inr (closed-refused m a z)))
 
 fetched-alike : (m n : Areas) → Alike n m → (a : ℕ) → fetched n a ≡ fetched m a
 fetched-alike m n k a = go (standing m a) refl

@@ -12,7 +12,7 @@ use borrow.Author.Tests.{eq-eqb, ne-eqb}
 use lib.Dec.{eqb}
 use lib.ListN.{length, getD, replicate}
 use Rattle.model.specs.declared.Faults.{Faults}
-use Rattle.model.specs.Layout.{Areas, stride, areasFit, entry, place, wordsAt, portAt, flagsOf, partOf, withPart}
+use Rattle.model.specs.Layout.{Areas, stride, tablesFit, pagesFit, areasFit, entry, place, wordsAt, portAt, flagsOf, partOf, withPart}
 use Rattle.model.specs.Ports.{codeOf, sizeOf, wellFormed, Standing, standingOf, standing, turned, filledWords, faulty, markedWords}
 use Rattle.model.specs.Ports.{openWords, noWords, Effect, fill, mark, opened, closed, filled, apply}
 use Rattle.model.specs.Calls.{clearedAreas}
@@ -39,7 +39,7 @@ cleared-entry a = zero-at 4096 a
 
 -- cleared areas have the shape
 pub shape-cleared : Shape clearedAreas
-unfolding clearedAreas areasFit wordsAt
+unfolding clearedAreas areasFit tablesFit pagesFit wordsAt
 shape-cleared =
     record {
       fits = refl;

@@ -2,6 +2,7 @@
 -- Assumes nothing.
 use Prim.Native.Nat.{ℕ, _*_}
 use mathlib.Core.Path.{_≡_}
+use mathlib.Core.Logic.{_⊎_}
 use mathlib.Core.Bool.{Bool, true, false, cond, not, _&&_, _||_}
 use mathlib.Core.List.{List, [], _∷_}
 use mathlib.Core.Option.{Option, none, some}
@@ -13,7 +14,7 @@ use Rattle.model.specs.declared.Answer.{Answer}
 use Rattle.model.specs.declared.Answer.the-variants.{Never, Good, Held, Stale, Refused}
 use Rattle.model.specs.declared.Heard.{Heard}
 use Rattle.model.specs.declared.Heard.the-variants.{Nothing, Unsound, Master, Reply, Stray}
-use Rattle.model.specs.Layout.{Areas, areas, stride, areasFit, entry, portAt, flagsOf}
+use Rattle.model.specs.Layout.{Areas, areas, stride, tablesFit, pagesFit, areasFit, entry, portAt, flagsOf}
 use Rattle.model.specs.Ports.{codeOf, addressOf, hasPorts, sizeOf, wellFormed, validWords, stateOf, Effect, untouched, fill, opened}
 use Rattle.model.specs.Ports.{closed, apply}
 use Rattle.model.specs.Event.{World, world, heardBy, hearController, hearEffect, hearAnswer, spoken}
@@ -25,7 +26,7 @@ pub data Call : Type 0 where
   hear : (a b : Hearing) → Call
   -- n quiet bit times
   quiet : (n : ℕ) → Call
-  -- the host's calls on ports; asking and fetching are one reading
+  -- the host's calls on ports; reading is asking, since fetching answers no number (see `fetched`)
   openPort : (a p code : ℕ) (sink : Bool) (interrupt limit : ℕ) → Call
   closePort : (a : ℕ) → Call
   writePort : (a : ℕ) (ws : List ℕ) → Call
@@ -61,6 +62,10 @@ test n b = record { name = n; given = b }
 -- an area has another length
 abbrev pub areaTest : Areas → Test
 areaTest m = test badArea (not (areasFit m))
+
+-- the index table or the port words have another length: of asking, which is lent these two
+abbrev pub tableTest : Areas → Test
+tableTest m = test badArea (not (tablesFit m))
 
 -- an argument is out of range
 abbrev pub rangeTest : Bool → Test
@@ -100,9 +105,9 @@ sizeTest m a ws = test wrongSize (not (eqb (length ws) (sizeOf (codeOf (portAt m
 
 -- ---- the order: 1, 2, 6 for the entry, 3 or 4, 6 for the port words (not on opening), 5, 2 for the size of a write
 
--- a host's call that needs a port, and what it asks of it
+-- after 1, a host's call that needs a port, and what it asks of it
 abbrev pub atPort : Areas → ℕ → List Test → List Test
-atPort m a more = areaTest m ∷ rangeTest (ltb 4095 a) ∷ entryTest m (some a) ∷ noPortTest m a ∷ wordsTest m (some a) ∷ more
+atPort m a more = rangeTest (ltb 4095 a) ∷ entryTest m (some a) ∷ noPortTest m a ∷ wordsTest m (some a) ∷ more
 
 -- address 0 to 4095, port 1 to 255, F-code 0 to 4 and interrupt 0 to 7 on opening; a limit is any word
 abbrev pub openOut : ℕ → ℕ → ℕ → ℕ → Bool
@@ -125,15 +130,15 @@ wordOfHeard (Master w) = some w
 wordOfHeard (Reply w j) = some w
 wordOfHeard Stray = none
 
--- both hearings are tested; a setting is lent no area
+-- both hearings are tested; asking is lent two of the areas, a setting none
 abbrev pub tests : Call → World → List Test
 tests (hear a b) s = onBus (s .areas) (not (inRange a) || not (inRange b)) (wordOfHeard (heardBy (s .controller) a b))
 tests (quiet n) s = onBus (s .areas) (ltb 65535 n) (dueWithin n s)
 tests (openPort a p code sink i limit) s =
     areaTest (s .areas) ∷ rangeTest (openOut a p code i) ∷ entryTest (s .areas) (some a) ∷ takenTest (s .areas) a p ∷ []
-tests (closePort a) s = atPort (s .areas) a []
-tests (writePort a ws) s = atPort (s .areas) a (sideTest (s .areas) a ∷ sizeTest (s .areas) a ws ∷ [])
-tests (readPort a) s = atPort (s .areas) a []
+tests (closePort a) s = areaTest (s .areas) ∷ atPort (s .areas) a []
+tests (writePort a ws) s = areaTest (s .areas) ∷ atPort (s .areas) a (sideTest (s .areas) a ∷ sizeTest (s .areas) a ws ∷ [])
+tests (readPort a) s = tableTest (s .areas) ∷ atPort (s .areas) a []
 tests (setting t) s = rangeTest (settingOut t) ∷ []
 
 -- the number of the first test that holds, 0 for none
@@ -215,7 +220,7 @@ portRefusal c m = refusal c (freshOver m)
 
 -- ---- reading
 
--- asking answers never, good, held or stale, or a refusal
+-- asking answers never, good, held or stale, or a refusal, from the index table and the port words alone
 unfoldable pub asked : Areas → ℕ → Answer
 asked m a =
     cond (eqb (portRefusal (readPort a) m) 0) (stateOf (portAt m (entry m a))) (Refused (portRefusal (readPort a) m))
@@ -228,7 +233,11 @@ refusalOf Held = 0
 refusalOf Stale = 0
 refusalOf (Refused n) = n
 
--- fetching hands back the port's own part of the valid page; it is empty exactly when asking refuses or answers never
+-- asking refuses, or answers never
+abbrev pub ShowsNone : Answer → Type 0
+ShowsNone x = (x ≡ Never) ⊎ ((n : ℕ) × (x ≡ Refused n))
+
+-- the words where an answer shows them, else none
 abbrev pub partFor : Answer → List ℕ → List ℕ
 partFor Never ws = []
 partFor Good ws = ws
@@ -236,8 +245,10 @@ partFor Held ws = ws
 partFor Stale ws = ws
 partFor (Refused n) ws = []
 
+-- fetching hands back the port's own part of the valid page; it is empty exactly when asking refuses or answers never, or a page has
+-- another length
 unfoldable pub fetched : Areas → ℕ → List ℕ
-fetched m a = partFor (asked m a) (validWords m (entry m a))
+fetched m a = cond (pagesFit m) (partFor (asked m a) (validWords m (entry m a))) []
 
 -- ---- the start of a run: a fresh controller and cleared areas
 

@@ -1,5 +1,5 @@
 -- Document 01, "Memory lent to the calls": the four areas, and where a port's words and page words lie. Document 02, W-206: the marks of
--- the blocks in word 1; W-205: the limit and the age of a port. Assumes nothing.
+-- the blocks in word 1; W-205: the limit and the age of a port; W-212: two of the areas by themselves. Assumes nothing.
 use Prim.Native.Nat.{ℕ, _+_, _*_, _/_, _%_}
 use mathlib.Core.Bool.{Bool, true, false, _&&_}
 use mathlib.Core.List.{List}
@@ -24,11 +24,17 @@ areas i p z o = record { index = i; ports = p; page0 = z; page1 = o }
 abbrev pub stride : ℕ
 stride = 8
 
--- index table, 4096 words; port words, 2048; page 0 and page 1, 4096 each
+-- index table, 4096 words; port words, 2048
+unfoldable pub tablesFit : Areas → Bool
+tablesFit m = eqb (length (m .index)) 4096 && eqb (length (m .ports)) (stride * 256)
+
+-- page 0 and page 1, 4096 each
+unfoldable pub pagesFit : Areas → Bool
+pagesFit m = eqb (length (m .page0)) 4096 && eqb (length (m .page1)) 4096
+
+-- all four areas have their lengths
 unfoldable pub areasFit : Areas → Bool
-areasFit m =
-    eqb (length (m .index)) 4096 && eqb (length (m .ports)) (stride * 256) && eqb (length (m .page0)) 4096
-    && eqb (length (m .page1)) 4096
+areasFit m = tablesFit m && pagesFit m
 
 -- ---- the index table: entry a is the port number of logical address a
 

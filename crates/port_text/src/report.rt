@@ -78,7 +78,7 @@ fn put_port<'a>(
     let f = layout::flags_of(w.flags);
     let faults = f.faults;
     let marks = layout::marks_number(faults.wrong);
-    let state = calls::ask(index, ports, page0, page1, a);
+    let state = calls::ask(index, ports, a);
     let words = calls::fetch(index, ports, page0, page1, a);
     let described = put_setup(out, at, a, w.master / CODE_UNIT, f.sink, p);
     let told = put_state(out, described, state);

@@ -18,6 +18,7 @@ use Rattle.model.specs.Calls.{Call, partFor, asked, fetched}
 use Rattle.model.specs.Past.{opening, keeps, opens, writes, leaves, after, Accepted, Opening, openingOf, answersSince, writesSince, lastOf, fillings}
 use Rattle.model.specs.StatusBits.{faultsSince}
 use Rattle.model.proofs.Shape.{Shape}
+use Rattle.model.proofs.Formed.{pages-fit}
 use Rattle.model.proofs.Standings.{standing-at, none-entry}
 use Rattle.model.proofs.ToldPort.{standingWith, toldStanding}
 use Rattle.model.proofs.Told.{past-told}
@@ -79,7 +80,7 @@ module _ (m : Areas) (shape : Shape m) (a : ℕ) (o : Opening) (free : o .limit 
       let fills = ap (λ (v : Standing). v .fills) whole-port in
       let limit = ap (λ (v : Standing). v .limit) whole-port in
       let text = said words (sym limit ∙ free) (validWords m (entry m a)) in
-      rw (open-there, asks, word, sink, port, shows, fills, text .0, text .1)
+      rw (open-there, pages-fit m (shape .fits), asks, word, sink, port, shows, fills, text .0, text .1)
 
 -- ---- what is printed of all ports
 

@@ -21,7 +21,7 @@ fn a_millisecond_is_1500_bit_times_and_the_limit_is_reached_at_it() {
     let (mut c, mut areas) = filled(2);
     for (n, old, state) in [(1499, 0, Answer::Good), (1, 1, Answer::Good), (1499, 1, Answer::Good), (1, 2, Answer::Stale)] {
         assert_eq!(quiet(&mut c, &mut areas, n), 0);
-        assert_eq!((age(&areas), ask(&areas, 1)), (old, state));
+        assert_eq!((age(&areas), ask(areas.tables(), 1)), (old, state));
     }
     assert_eq!(fetch(&areas, 1), [9]);
 }
@@ -46,12 +46,12 @@ fn never_and_held_come_before_stale() {
     let (mut c, mut areas) = filled(1);
     quiet(&mut c, &mut areas, 1500);
     hear(&mut c, &mut areas, master(1), master(1));
-    assert_eq!(ask(&areas, 1), Answer::Stale);
+    assert_eq!(ask(areas.tables(), 1), Answer::Stale);
     quiet(&mut c, &mut areas, 64);
-    assert_eq!(ask(&areas, 1), Answer::Held);
+    assert_eq!(ask(areas.tables(), 1), Answer::Held);
     assert_eq!(open(&mut areas, 2, 2, 0, true, 0, 1), 0);
     quiet(&mut c, &mut areas, 65_535);
-    assert_eq!((ask(&areas, 2), areas.ports[2 * WORDS + AGE]), (Answer::Never, 43));
+    assert_eq!((ask(areas.tables(), 2), areas.ports[2 * WORDS + AGE]), (Answer::Never, 43));
 }
 
 #[test]
@@ -59,7 +59,7 @@ fn an_age_stops_and_a_limit_of_0_is_no_limit() {
     let (mut c, mut areas) = filled(0);
     areas.ports[WORDS + AGE] = 65_534;
     quiet(&mut c, &mut areas, 65_535);
-    assert_eq!((age(&areas), ask(&areas, 1)), (65_535, Answer::Good));
+    assert_eq!((age(&areas), ask(areas.tables(), 1)), (65_535, Answer::Good));
 }
 
 #[test]
@@ -96,6 +96,6 @@ fn a_fault_leaves_the_age_and_a_taken_frame_sets_it_to_0() {
     for (frame, old, state) in [(bad_check(slave(&[8])), 1, Answer::Held), (slave(&[8]), 0, Answer::Good)] {
         hear(&mut c, &mut areas, master(1), master(1));
         hear(&mut c, &mut areas, frame, frame);
-        assert_eq!((age(&areas), ask(&areas, 1)), (old, state));
+        assert_eq!((age(&areas), ask(areas.tables(), 1)), (old, state));
     }
 }

@@ -223,7 +223,7 @@ fn a_sound_slave_clears_the_status_bits() {
     w.both(master(1));
     w.both(slave(&[6]));
     assert_eq!((w.word1(1), w.fills(1)), (SINK | EVER | VP, 1));
-    assert_eq!(ask(&w.areas, 1), Answer::Good);
+    assert_eq!(ask(w.areas.tables(), 1), Answer::Good);
 }
 
 #[test]

@@ -3,13 +3,11 @@ use crate::refusal::*;
 
 type Change = fn(&mut Areas);
 
-/// The four ways an area can have another length.
-const LENGTHS: [Change; 4] = [
-    |areas| areas.index.push(0),
-    |areas| areas.ports.truncate(2047),
-    |areas| areas.page0.clear(),
-    |areas| areas.page1.push(0),
-];
+/// The ways an area can have another length: the two that asking is lent,
+const TABLES: [Change; 3] = [|areas| areas.index.truncate(4095), |areas| areas.ports.truncate(2047), |areas| areas.ports.push(0)];
+
+/// and the pages.
+const PAGES: [Change; 3] = [|areas| areas.page0.clear(), |areas| areas.page0.truncate(4095), |areas| areas.page1.push(0)];
 
 /// All host calls on address a refuse so; opening has another number. Nothing changes.
 fn all_refuse(areas: &Areas, a: u16, refusal: u16, opening: u16) {
@@ -17,7 +15,7 @@ fn all_refuse(areas: &Areas, a: u16, refusal: u16, opening: u16) {
     assert_eq!(open(&mut later, a, 9, 0, true, 0, 0), opening);
     assert_eq!(close(&mut later, a), refusal);
     assert_eq!(write(&mut later, a, &[0]), refusal);
-    assert_eq!(ask(&later, a), Answer::Refused(refusal));
+    assert_eq!(ask(later.tables(), a), Answer::Refused(refusal));
     assert_eq!(fetch(&later, a), []);
     assert_eq!(later, *areas);
 }
@@ -38,7 +36,7 @@ fn opening_a_source() {
     let mut areas = Areas::zero();
     assert_eq!(open(&mut areas, 0, 1, 4, false, 0, 0), 0);
     assert_eq!(areas.ports[1 * WORDS..1 * WORDS + 4], [0x4000, SRC, 0, 0]);
-    assert_eq!(ask(&areas, 0), Answer::Never);
+    assert_eq!(ask(areas.tables(), 0), Answer::Never);
     assert_eq!(fetch(&areas, 0), []);
 }
 
@@ -57,11 +55,41 @@ fn ranges_of_opening() {
 
 #[test]
 fn area_comes_first() {
-    for change in LENGTHS {
+    for change in TABLES {
         let mut areas = Areas::zero();
         change(&mut areas);
         all_refuse(&areas, 5000, AREA, AREA);
         all_refuse(&areas, 0, AREA, AREA);
+    }
+}
+
+#[test]
+fn asking_needs_no_pages() {
+    for change in PAGES {
+        let mut w = World::with_ports();
+        assert_eq!(write(&mut w.areas, 2, &[7; 4]), 0);
+        w.areas.index[9] = 256;
+        w.areas.index[10] = 1; // the words of port 1 are those of address 1
+        change(&mut w.areas);
+        let asked = [
+            (1, Answer::Never),
+            (2, Answer::Good),
+            (3, Answer::Refused(NOPORT)),
+            (9, Answer::Refused(DAMAGED)),
+            (10, Answer::Refused(DAMAGED)),
+            (5000, Answer::Refused(RANGE)),
+        ];
+        let before = w.areas.clone();
+        for (a, answer) in asked {
+            assert_eq!(ask(w.areas.tables(), a), answer);
+            assert_eq!(fetch(&w.areas, a), []);
+            assert_eq!(open(&mut w.areas, a, 9, 0, true, 0, 0), AREA);
+            assert_eq!(close(&mut w.areas, a), AREA);
+            assert_eq!(write(&mut w.areas, a, &[0; 4]), AREA);
+        }
+        assert_eq!(hear(&mut w.c, &mut w.areas, silence(), silence()), (AREA, None));
+        assert_eq!(quiet(&mut w.c, &mut w.areas, 0), AREA);
+        assert_eq!(w.areas, before);
     }
 }
 
@@ -135,7 +163,7 @@ fn well_formed_port_words() {
         let mut areas = Areas::zero();
         areas.index[1] = 6;
         areas.ports[6 * WORDS..6 * WORDS + 3].copy_from_slice(&words);
-        assert_eq!(ask(&areas, 1) != Answer::Refused(DAMAGED), right, "{words:x?}");
+        assert_eq!(ask(areas.tables(), 1) != Answer::Refused(DAMAGED), right, "{words:x?}");
         if !right {
             all_refuse(&areas, 1, DAMAGED, TAKEN);
         }
@@ -164,7 +192,7 @@ fn closing_zeroes_entry_and_words_pages_stay() {
     assert_eq!(w.areas.page1[32..36], [1, 2, 3, 4]);
     assert_eq!(close(&mut w.areas, 2), NOPORT);
     assert_eq!(open(&mut w.areas, 2, 2, 2, false, 0, 0), 0);
-    assert_eq!(ask(&w.areas, 2), Answer::Never);
+    assert_eq!(ask(w.areas.tables(), 2), Answer::Never);
 }
 
 #[test]
@@ -209,7 +237,7 @@ fn sixty_five_thousand_fills() {
     w.areas.ports[2 * WORDS + 3] = 65_535;
     assert_eq!(write(&mut w.areas, 2, &[9; 4]), 0);
     assert_eq!(w.fills(2), 0);
-    assert_eq!(ask(&w.areas, 2), Answer::Good);
+    assert_eq!(ask(w.areas.tables(), 2), Answer::Good);
     assert_eq!(fetch(&w.areas, 2), [9; 4]);
 }
 
@@ -227,7 +255,7 @@ fn asking() {
         (EVER | STO | TERR, Answer::Held),
     ] {
         w.areas.ports[1 * WORDS + 1] = SINK | bits;
-        assert_eq!(ask(&w.areas, 1), answer);
+        assert_eq!(ask(w.areas.tables(), 1), answer);
         assert_eq!(fetch(&w.areas, 1).is_empty(), answer == Answer::Never);
     }
 }

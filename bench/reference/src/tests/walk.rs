@@ -103,7 +103,7 @@ fn every_step_keeps_the_invariants() {
                 for p in 1..8 { if dice.below(9) == 0 { w.areas.ports[WORDS * p..WORDS * p + WORDS].fill(0); } }
                 continue;
             }
-            _ => match ask(&w.areas, a) {
+            _ => match ask(w.areas.tables(), a) {
                 Answer::Refused(number) => { assert!(fetch(&w.areas, a).is_empty()); number }
                 answer => { assert_eq!(fetch(&w.areas, a).is_empty(), answer == Answer::Never); 0 }
             },

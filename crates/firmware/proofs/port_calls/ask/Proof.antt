@@ -1,6 +1,8 @@
--- `port_calls::ask` answers what asking does, and 1 where an area has another length. Assumes nothing.
+-- `port_calls::ask` answers what asking does, and 1 where one of its areas has another length. Assumes nothing.
 use mathlib.Core.Path.{sym, _∙_}
-use Rattle.areas.specs.Lent.{lent}
+use mathlib.Core.List.{[]}
+use denote.Ref.{now}
+use Rattle.model.specs.Layout.{areas}
 use Rattle.firmware.proofs.Through.{asked-unfit}
 use Rattle.firmware.proofs.port_calls.ask.Statement.{statement}
 use Rattle.firmware.proofs.port_calls.ask.Tie as tie
@@ -10,8 +12,8 @@ returns c = c .ask .ensures .0
 
 returns-2 : tie.Need-returns-2
 returns-2 c =
-    let a = c .before .before .before .before .before .before .args in
-    sym (asked-unfit (lent (a .index) (a .ports) (a .page0) (a .page1)) (a .a) (sym (c .before .fits2 .ensures) ∙ c .if1 .left))
+    let a = c .before .before .before .before .args in
+    sym (asked-unfit (areas (now (a .index)) (now (a .ports)) [] []) (a .a) (sym (c .before .tables-fit .ensures) ∙ c .if1 .left))
 
 pub ask-spec : {M : Type 1} → statement M
 ask-spec = tie.close (tie.spec (λ c κs. tt) (λ c κs. tt) returns returns-2)

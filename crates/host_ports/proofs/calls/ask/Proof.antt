@@ -1,9 +1,11 @@
 -- `host_ports::calls::ask` answers as defined: from what its callees ensure. Assumes nothing.
 use mathlib.Core.Path.{_≡_, _∙_, ap}
+use mathlib.Core.List.{[]}
+use denote.Ref.{now}
 use borrow.Author.Needs.{needs}
+use Rattle.model.specs.Layout.{areas}
 use Rattle.model.specs.Calls.{asked, refusalOf}
 use Rattle.model.proofs.Reading.{asked-number}
-use Rattle.areas.specs.Lent.{lent}
 use Rattle.host_ports.proofs.Host.{read-number}
 use Rattle.host_ports.proofs.calls.ask.Statement.{statement}
 use Rattle.host_ports.proofs.calls.ask.Tie as tie
@@ -12,8 +14,8 @@ returns : tie.Need-returns
 unfolding asked
 returns c =
     let found = c .before .before in
-    let a = found .before .before .before .before .before .before .before .args in
-    let m = lent (a .index) (a .ports) (a .page0) (a .page1) in
+    let a = found .before .before .before .before .before .args in
+    let m = areas (now (a .index)) (now (a .ports)) [] [] in
     let answers : c .pick-answer .result ≡ asked m (a .a) =
     rw (
       read-number m (a .a),
@@ -21,7 +23,7 @@ returns c =
       c .before .state-of .ensures,
       found .get-port .ensures,
       found .before .get .ensures,
-      found .before .before .reach .ensures,
+      found .before .before .of-ask .ensures,
     ) in
     (answers, ap refusalOf answers ∙ asked-number m (a .a))
 

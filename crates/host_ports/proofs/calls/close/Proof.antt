@@ -15,13 +15,13 @@ returns c =
     let a = tested .before .before .before .before .before .before .before .args in
     let m = lent (a .index) (a .ports) (a .page0) (a .page1) in
     rw (c .before .before .put-port .ensures, c .before .before .before .before .before .before .put .ensures, found .get .ensures)
-    (done _ m (close-number m (a .a)) (tested .reach .ensures) (found .before .before .if1 .taken))
+    (done _ m (close-number m (a .a)) (tested .of-close .ensures) (found .before .before .if1 .taken))
 
 returns-2 : tie.Need-returns-2
 returns-2 c =
     let a = c .before .before .before .before .before .before .before .before .args in
     let m = lent (a .index) (a .ports) (a .page0) (a .page1) in
-    refused _ m (close-number m (a .a)) (c .before .reach .ensures) (c .if1 .left)
+    refused _ m (close-number m (a .a)) (c .before .of-close .ensures) (c .if1 .left)
 
 pub close-spec : {M : Type 1} → statement M
 close-spec =

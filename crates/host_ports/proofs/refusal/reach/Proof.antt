@@ -8,7 +8,6 @@ returns : tie.Need-returns
 unfolding reached
 returns c =
     let back4 = c .before .before .before .before in
-    let back8 = back4 .before .before .before .before in
     rw (
       c .pick5 .ensures,
       c .before .pick4 .ensures,
@@ -18,11 +17,10 @@ returns c =
       back4 .before .well-formed .ensures,
       back4 .before .before .get-port .ensures,
       back4 .before .before .before .get .ensures,
-      back8 .fits2 .ensures,
     )
 
 pub reach-spec : {M : Type 1} → statement M
 reach-spec =
     tie.close
     (tie.spec (λ c κs. search needs) (λ c κs. search needs) (λ c κs. search needs) (λ c κs. search needs) (λ c κs. search needs)
-    (λ c κs. search needs) (λ c κs. search needs) (λ c κs. search needs) (λ c κs. search needs) returns)
+    (λ c κs. search needs) (λ c κs. search needs) (λ c κs. search needs) returns)

@@ -1,4 +1,6 @@
 -- `report::put_port` writes the setup lines and then four more, one after the other. Assumes nothing.
+use denote.Ref.{now}
+use Rattle.model.proofs.Asking.{asks-alone}
 use Rattle.port_digits.proofs.Pasting.{then}
 use Rattle.port_text.specs.Report.{portText}
 use borrow.Author.Needs.{needs}
@@ -14,10 +16,12 @@ returns c =
     let told = fills .before .before .before .before .before in
     let described = told .before .before .before .before in
     let marks = described .before .before .before .before .before in
+    let a = marks .before .before .before .before .before .before .before .before .before .args in
     rw (
       ← marks .before .before .before .get-port .ensures,
       ← marks .before .before .flags-of .ensures,
       ← marks .marks-number .ensures,
+      asks-alone (now (a .index)) (now (a .ports)) (now (a .page0)) (now (a .page1)) (a .a),
       ← described .before .before .before .before .ask .ensures .0,
       ← described .before .before .before .fetch .ensures .0,
     )
