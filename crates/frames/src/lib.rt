@@ -14,7 +14,7 @@ ghost use Rattle.frames.specs.Judge.{wrong_of, no_wrong, any_wrong, verdict, jud
 use logic::{both, either};
 
 // What was heard in an event.
-#[derive(Drop)]
+#[derive(Clone, Copy)]
 pub enum Kind {
     Silence,
     Noise,
@@ -24,7 +24,7 @@ pub enum Kind {
 
 // What one line heard in an event: `size` words and `ends` check bytes, each of which ends a block, and the three quality marks.
 // In silence and in noise the rest says nothing.
-#[derive(Drop)]
+#[derive(Clone, Copy)]
 pub struct Hearing {
     pub kind: Kind,
     pub words: [u16; 16],
@@ -37,14 +37,14 @@ pub struct Hearing {
 }
 
 // What answers a master frame: a slave frame of so many words, or nothing.
-#[derive(Drop)]
+#[derive(Clone, Copy)]
 pub enum Expected {
     Words(usize),
     NoReply,
 }
 
 // Which of the up to four blocks of a frame are wrong.
-#[derive(Drop)]
+#[derive(Clone, Copy)]
 pub struct Wrong {
     pub first: bool,
     pub second: bool,
@@ -53,7 +53,7 @@ pub struct Wrong {
 }
 
 // A frame is sound, or it is not: then the blocks with a wrong check byte are marked if the counts were right, and none otherwise.
-#[derive(Drop)]
+#[derive(Clone, Copy)]
 pub enum Judgement {
     Sound,
     Unsound(Wrong),

@@ -15,7 +15,7 @@ ghost use Rattle.interrupts.specs.Group.{pending_written, mask_written, active};
 ghost use Rattle.interrupts.specs.Names.{data_transfer};
 
 // `used` has a 1 for each bit that the group has; the others stay zero in the three words.
-#[derive(Drop)]
+#[derive(Clone, Copy)]
 pub struct Group {
     pub used: u16,
     pub pending: u16,
@@ -25,7 +25,7 @@ pub struct Group {
 }
 
 // What was read, and the group afterwards.
-#[derive(Drop)]
+#[derive(Clone, Copy)]
 pub struct Read {
     pub value: u16,
     pub group: Group,

@@ -10,7 +10,7 @@ use frames::{Judgement, Wrong};
 use interrupts::Group;
 
 // The exchange is idle, waiting with the master word, or done.
-#[derive(Drop)]
+#[derive(Clone, Copy)]
 pub enum Exchange {
     Idle,
     Waiting(u16),
@@ -19,7 +19,7 @@ pub enum Exchange {
 
 // Bit times since the last sound master frame or reset, counted up to the bus timeout; the line count; and the reply time that the
 // host chose and the one that the last sound master frame adopted.
-#[derive(Drop)]
+#[derive(Clone, Copy)]
 pub struct Times {
     pub since: u16,
     pub line: u16,
@@ -28,7 +28,7 @@ pub struct Times {
 }
 
 // LAA: line A is the trusted one. RLD: the redundant line is disturbed. LS: a switch is filed. SLM: single line mode.
-#[derive(Drop)]
+#[derive(Clone, Copy)]
 pub struct Lines {
     pub laa: bool,
     pub rld: bool,
@@ -37,21 +37,21 @@ pub struct Lines {
 }
 
 // FC counts judged frames, EC the unsound ones.
-#[derive(Drop)]
+#[derive(Clone, Copy)]
 pub struct Counts {
     pub fc: u16,
     pub ec: u16,
 }
 
 // The device address, and the status word where the host has set one.
-#[derive(Drop)]
+#[derive(Clone, Copy)]
 pub struct Device {
     pub address: u16,
     pub set: bool,
     pub status: u16,
 }
 
-#[derive(Drop)]
+#[derive(Clone, Copy)]
 pub struct Controller {
     pub exchange: Exchange,
     pub times: Times,
@@ -66,7 +66,7 @@ pub struct Controller {
 
 // The eight words of a port: its master word, its flags, its data transfer interrupt or 0, its fills, its limit in milliseconds or 0
 // where it is not supervised, its age in milliseconds, and two that are zero.
-#[derive(Drop)]
+#[derive(Clone, Copy)]
 pub struct Words {
     pub master: u16,
     pub flags: u16,
@@ -79,7 +79,7 @@ pub struct Words {
 }
 
 // The status bits of a port's flags; the marks of the blocks are among them.
-#[derive(Drop)]
+#[derive(Clone, Copy)]
 pub struct Faults {
     pub sto: bool,
     pub terr: bool,
@@ -90,7 +90,7 @@ pub struct Faults {
 }
 
 // The flags of a port: valid page, ever filled, source, sink, and the status bits.
-#[derive(Drop)]
+#[derive(Clone, Copy)]
 pub struct Flags {
     pub vp: bool,
     pub ever: bool,
@@ -100,7 +100,7 @@ pub struct Flags {
 }
 
 // What the index table and the port words say of an address: no port, a damaged entry or damaged port words, or a port.
-#[derive(Drop)]
+#[derive(Clone, Copy)]
 pub enum Sought {
     Nothing,
     Damaged,
@@ -108,7 +108,7 @@ pub enum Sought {
 }
 
 // What asking answers.
-#[derive(Drop)]
+#[derive(Clone, Copy)]
 pub enum Answer {
     Never,
     Good,
@@ -119,7 +119,7 @@ pub enum Answer {
 
 // What the trusted line heard, by the exchange: nothing, an unsound or a sound master frame, a slave frame that is judged while a
 // master word is waited for, or one that is not.
-#[derive(Drop)]
+#[derive(Clone, Copy)]
 pub enum Heard {
     Nothing,
     Unsound,

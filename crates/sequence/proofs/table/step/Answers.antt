@@ -1,0 +1,7 @@
+-- `sequence::table::step` gives step i: the table's rule, cited at entry i. Assumes nothing.
+use Rattle.sequence.specs.Steps.{StepTable}
+use Rattle.sequence.proofs.table.step.Goals as goal
+
+pub returns : goal.returns
+unfolding StepTable
+returns c = c.requires.0 c.args.i c.requires.1
