@@ -16,4 +16,4 @@ returns c =
       c.is_wrong.ensures,
       c.frame_checks-f.ensures,
     )
-    (rw (right_byte ws a.t2 0, right_byte ws a.t2 1, right_byte ws a.t2 2, right_byte ws a.t2 3))
+    (rw (right_byte ws a.checks 0, right_byte ws a.checks 1, right_byte ws a.checks 2, right_byte ws a.checks 3))
