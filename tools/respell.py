@@ -10,8 +10,10 @@ import os
 import re
 import sys
 
-DEF = re.compile(r"^(?:(?:abbrev|unfoldable|opaque)\s+)?(?:pub\s+)?(?:(?:data|record)\s+)?(?:pub\s+)?([^\s(){}:◌]+)\s*(?:[({].*?)?:\s", re.M)
-MEMBER = re.compile(r"^  (?:pub\s+)?([^\s(){}:,;=]+)\s*:\s", re.M)
+DEF = re.compile(r"^ *(?:(?:abbrev|unfoldable|pub|data|record)\s+)*([^\s(){}:,;=◌]+)\s*(?:[({].*?)?:\s", re.M)
+# constructors that share a line, and a name that an import gives
+SHARED = re.compile(r"^ +((?:[\w'-]+ )+[\w'-]+) : ", re.M)
+GIVEN = re.compile(r" as ([\w'-]+)")
 IS_WORD = r"[\w'◌-]"
 
 
@@ -46,15 +48,16 @@ def snake(word):
 
 
 def defined(root):
-    """The names that stand at the left of a line with their type, and the members and constructors of records and data, outside the proofs of
-    functions, whose names are made of the code's."""
+    """The names that begin a line with their type behind them (definitions, lemmas, members and constructors), outside the proofs of functions,
+    whose names are made of the code's."""
     found = set()
     for p in files(os.path.join(root, "crates"), ".antt"):
-        if p.endswith("/Proof.antt"):
+        if os.path.basename(p) in ("Proof.antt", "Answers.antt", "Invariants.antt"):
             continue
         t = bare(read(p))
-        for pattern in (DEF, MEMBER):
-            found.update(m.group(1) for m in pattern.finditer(t))
+        found.update(m.group(1) for m in DEF.finditer(t))
+        found.update(n for m in SHARED.finditer(t) for n in m.group(1).split() if "-" not in n)
+        found.update(n for n in GIVEN.findall(t) if "-" not in n)
     return {n for n in found if re.fullmatch(r"\w[\w'-]*", n) and "--" not in n and not n.endswith("-")}
 
 
@@ -69,6 +72,7 @@ CHOSEN = {
     "portTold": "told_of_port",
     "bit-and": "bit_and_lem",
     "bit-or": "bit_or_lem",
+    "clearEC": "ec_clear",
     "lines-told": "lines_told_lem",
 }
 
@@ -80,10 +84,10 @@ def mapping(root):
         new = CHOSEN.get(n, respelled(n))
         if new != n:
             table[n] = new
-    # a definition in camel case beside a lemma of that name
+    # a definition beside a lemma of that name
     camel = {new for n, new in table.items() if "-" not in n}
     for n in sorted(own):
-        if "-" in n and table[n] in camel:
+        if "-" in n and (table[n] in camel or table[n] in own):
             table[n] += "_lem"
         elif n in camel and n not in table and n not in BOTH:
             table[n] = n + "_lem"
@@ -101,6 +105,8 @@ BOTH = {"all_right"}
 
 
 def replaced(t, table, before):
+    if not table:
+        return t
     names = "|".join(sorted(map(re.escape, table), key=len, reverse=True))
     pattern = re.compile(r"(?<!" + before + r")(?<!" + IS_WORD + ")(" + names + r")(?!" + IS_WORD + ")")
     return pattern.sub(lambda m: table[m.group(1)], t)

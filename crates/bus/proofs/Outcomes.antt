@@ -20,7 +20,7 @@ use Rattle.model.specs.Lines.{trusted, observed}
 use Rattle.model.specs.Event.{World, world, heard_by, device_with, raised_by_reply, silent, spoken}
 use Rattle.model.proofs.Tables.{answer_of, lines_found, effect_of, controller_after}
 use Rattle.model.specs.Quiet.{due_within, pulses}
-use Rattle.model.specs.Calls.{Call, hear, quiet, needed_for, word_of_heard, entry_above, ill_formed, refusal, effect, step, answer, badArea}
+use Rattle.model.specs.Calls.{Call, hear, quiet, needed_for, word_of_heard, entry_above, ill_formed, refusal, effect, step, answer, bad_area}
 use Rattle.model.specs.Calls.{Outcome, outcome}
 use Rattle.model.proofs.Refused.{accepted}
 use Rattle.model.proofs.Grown.{grown_by, ticks_grown}
@@ -146,7 +146,7 @@ pub quiet_accepted : (s : World) (q n : ℕ) → n ≡ refusal (quiet q) s → e
     → outcome (quiet q) s ≡ record { refusal = 0; reply = silent; world = grown_by q (pulses q s) }
 unfolding outcome step answer
 quiet_accepted s q n e f =
-    let fits : areas_fit s.areas ≡ true = not-false _ (accepted (quiet q) s (sym e ∙ eqb-true n 0 f) badArea) in
+    let fits : areas_fit s.areas ≡ true = not-false _ (accepted (quiet q) s (sym e ∙ eqb-true n 0 f) bad_area) in
     rw (← e, f, eqb-true n 0 f, ticks_grown q s fits)
 
 -- a refused call leaves all as it was

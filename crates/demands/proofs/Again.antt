@@ -5,7 +5,7 @@ use mathlib.Core.Path.{◌≡◌, refl, ◌∙◌, subst}
 use mathlib.Core.List.{List, [], ◌∷◌, ◌++◌}
 use Rattle.frames.specs.declared.Hearing.{Hearing}
 use Rattle.model.specs.Event.{World}
-use Rattle.model.specs.Host.{address, status, reply_time, slm, ls, clearEC, fresh_controller, tell}
+use Rattle.model.specs.Host.{address, status, reply_time, slm, ls, ec_clear, fresh_controller, tell}
 use Rattle.model.specs.Calls.{Call, hear, quiet, open_port, close_port, write_port, refusal, outcome, asked}
 use Rattle.model.specs.Past.{after, Accepted}
 use Rattle.host_ports.specs.Host.{host_call}
@@ -40,7 +40,7 @@ again (by_set_reply_time {t} p) u e = zeroed e (by_set_reply_time {r = told_for 
 again (by_set_status {w} p) u e = zeroed e (by_set_status {c = tell (status w) u.controller} refl)
 again (by_set_slm {b} p) u e = zeroed e (by_set_slm {c = tell (slm b) u.controller} refl)
 again (by_set_ls {b} p) u e = zeroed e (by_set_ls {c = tell (ls b) u.controller} refl)
-again (by_clear_ec p) u e = zeroed e (by_clear_ec {c = tell clearEC u.controller} refl)
+again (by_clear_ec p) u e = zeroed e (by_clear_ec {c = tell ec_clear u.controller} refl)
 again (by_reset p) u e = zeroed e (by_reset {c = fresh_controller} refl)
 again (by_on_group0 k p) u e = zeroed e (by_on_group0 k {r = reading0 k u.controller} refl)
 again (by_on_group1 k p) u e = zeroed e (by_on_group1 k {r = reading1 k u.controller} refl)

@@ -8,7 +8,7 @@ use lib.ListN.{get_or}
 use Rattle.model.specs.declared.Controller.{Controller}
 use Rattle.model.specs.Layout.{Areas, areas, words_at, flags_of}
 use Rattle.model.specs.Event.{world, silent}
-use Rattle.model.specs.Host.{address, status, reply_time, slm, ls, clearEC, reset, group0, group1}
+use Rattle.model.specs.Host.{address, status, reply_time, slm, ls, ec_clear, reset, group0, group1}
 use Rattle.model.specs.Calls.{hear, quiet, open_port, close_port, write_port, read_port, setting, port_refusal, fetched, refusal_of}
 use Rattle.model.proofs.Asking.{asks_alone, number_alone}
 use Rattle.areas.specs.Lent.{lent, valid_lent, Lies}
@@ -127,7 +127,7 @@ module _ (m : Areas) where
   made_set_ls κs a r e p = by_set_ls p
 
   -- clearing EC gives `by_clear_ec`
-  pub made_clear_ec : (κs : _) (a : _) (r : _) (e : _) → clear-ec-reads.Learnt κs a r e → Made (world a.0 m) (setting clearEC) 0 silent (world r m)
+  pub made_clear_ec : (κs : _) (a : _) (r : _) (e : _) → clear-ec-reads.Learnt κs a r e → Made (world a.0 m) (setting ec_clear) 0 silent (world r m)
   made_clear_ec κs a r e p = by_clear_ec p
 
   -- a reset gives `by_reset`, whatever controller there was

@@ -60,35 +60,35 @@ module _ {s t : World} {c : Call} {n : ℕ} {r : Hearing} (made : Made s c n r t
 
 module _ {s t : World} {a b r : Hearing} (made : Made s (hear a b) 0 r t) where
   -- what the trusted line heard
-  abbrev heardOn : Hearing
-  heardOn = trusted s.controller.lines a b
+  abbrev heard_on : Hearing
+  heard_on = trusted s.controller.lines a b
 
   accepts : refusal (hear a b) s ≡ 0
   accepts = sym (number_exactly made)
 
   -- The reply is a sound slave frame for the code of the master frame.
-  pub reply_sound : SoundMaster heardOn → (r ≡ silent → ⊥) → judged_slave (code_of (first_word heardOn)) r ≡ Sound
+  pub reply_sound : SoundMaster heard_on → (r ≡ silent → ⊥) → judged_slave (code_of (first_word heard_on)) r ≡ Sound
   reply_sound m speaks = go (answer (hear a b) s) refl (accepted_step made refl).1
     where
-      go : (o : Option (List ℕ)) → answer (hear a b) s ≡ o → spoken o ≡ r → judged_slave (code_of (first_word heardOn)) r ≡ Sound
+      go : (o : Option (List ℕ)) → answer (hear a b) s ≡ o → spoken o ≡ r → judged_slave (code_of (first_word heard_on)) r ≡ Sound
       go none e z = absurd (speaks (sym z))
-      go (some ws) e z = rw (← z) (anywhere.reply-sound-anywhere s a b accepts m ws e)
+      go (some ws) e z = rw (← z) (anywhere.reply_sound_anywhere s a b accepts m ws e)
 
   -- It is given to a sound master frame alone.
-  pub no_other_reply : (SoundMaster heardOn → ⊥) → r ≡ silent
+  pub no_other_reply : (SoundMaster heard_on → ⊥) → r ≡ silent
   no_other_reply n = sym (accepted_step made refl).1 ∙ ap spoken (anywhere.no_other_reply_anywhere s a b n)
 
   -- A sound slave frame on the trusted line that answers the waiting word of an open sink fills its port with the words of the frame.
   pub fills : (e : ℕ) (v : Standing) → standing s.areas e ≡ some v → v.sink ≡ true → answers_now s.controller a b v.word ≡ true
-      → t.areas ≡ filled s.areas v.port (words_of heardOn)
+      → t.areas ≡ filled s.areas v.port (words_of heard_on)
   fills e v there sink sound =
-      rw (← (accepted_step made refl).0) (anywhere.fills-anywhere s a b accepts e v there sink sound)
+      rw (← (accepted_step made refl).0) (anywhere.fills_anywhere s a b accepts e v there sink sound)
 
   -- Otherwise no area changes but for status bits.
   pub others : Typed (hear a b)
       → ((e : ℕ) (v : Standing) → standing s.areas e ≡ some v → v.sink ≡ true → answers_now s.controller a b v.word ≡ false)
       → OnlyStatus s.areas t.areas
-  others typed away = rw (← (accepted_step made refl).0) (anywhere.others-anywhere s a b accepts typed away)
+  others typed away = rw (← (accepted_step made refl).0) (anywhere.others_anywhere s a b accepts typed away)
 
 -- Accepted quiet time changes no area but for status bits and ages.
 pub quiet_marks : {s t : World} {n : ℕ} {r : Hearing} → Made s (quiet n) 0 r t → StatusAndAges s.areas t.areas

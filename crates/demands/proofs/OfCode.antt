@@ -73,42 +73,42 @@ module _ {past : List Call} {s : World} (calls : Ran past s) where
 
   module _ {t : World} {a b r : Hearing} (made : Made s (hear a b) 0 r t) where
     -- what the trusted line heard
-    abbrev heardNow : Hearing
-    heardNow = on_trusted past a b
+    abbrev heard_now : Hearing
+    heard_now = on_trusted past a b
 
     -- After the event each address shows the words of the frame where that is so, with one fill more, and else what it showed.
-    pub taken_exactly : Typed (hear a b) → (e : ℕ) → view t.areas e ≡ taken_if (answers past a b) (words_of heardNow) (view s.areas e)
-    taken_exactly typed e = rw (← (accepted_step made refl).0, ← same) (demand.frame-seen past all a b typed e)
+    pub taken_exactly : Typed (hear a b) → (e : ℕ) → view t.areas e ≡ taken_if (answers past a b) (words_of heard_now) (view s.areas e)
+    taken_exactly typed e = rw (← (accepted_step made refl).0, ← same) (demand.frame_seen past all a b typed e)
 
     -- The port that takes the frame raises its interrupt.
     pub taken_raises : (e : ℕ) (v : Standing) → standing s.areas e ≡ some v → v.sink ≡ true → answers past a b v.word ≡ true
         → t.controller.group0 ≡ raise_all (SFC ∷ interrupt_of (some v)) s.controller.group0
     taken_raises e v there sink sound =
-        rw (← (accepted_step made refl).0, ← same) (demand.frame-raises past all a b e v (rw same there) sink sound)
+        rw (← (accepted_step made refl).0, ← same) (demand.frame_raises past all a b e v (rw same there) sink sound)
 
     spoke : spoken (answer (hear a b) (after past)) ≡ r
     spoke = rw same (accepted_step made refl).1
 
     -- Each reply is exactly what the past tells, for every F-code and whatever was heard.
-    pub replies-exactly : r ≡ spoken (reply_in past a b)
-    replies-exactly = sym spoke ∙ ap spoken (demand.reply-told past all a b)
+    pub replies_exactly : r ≡ spoken (reply_in past a b)
+    replies_exactly = sym spoke ∙ ap spoken (demand.reply_told_lem past all a b)
 
     -- A data reply holds the words that the host last wrote.
-    pub data-replied : SoundMaster heardNow → has_ports (code_of (first_word heardNow)) ≡ true
-        → r ≡ spoken (source_told past (first_word heardNow) (opening_of past (address_of (first_word heardNow))))
-    data-replied m p = sym spoke ∙ ap spoken (demand.data-reply past all a b m p)
+    pub data_replied : SoundMaster heard_now → has_ports (code_of (first_word heard_now)) ≡ true
+        → r ≡ spoken (source_told past (first_word heard_now) (opening_of past (address_of (first_word heard_now))))
+    data_replied m p = sym spoke ∙ ap spoken (demand.data_reply past all a b m p)
 
-    module _ (m : SoundMaster heardNow) (poll : code_of (first_word heardNow) ≡ 15)
-        (ours : address_of (first_word heardNow) ≡ (last_settings past).address) where
+    module _ (m : SoundMaster heard_now) (poll : code_of (first_word heard_now) ≡ 15)
+        (ours : address_of (first_word heard_now) ≡ (last_settings past).address) where
       -- A status reply holds the status word last set, with LAA and RLD as the poll finds them.
-      pub status-replied : r ≡ spoken (status_told (lines_polled past a b) (last_settings past).status)
-      status-replied = sym spoke ∙ ap spoken (demand.status-reply past all a b m poll ours)
+      pub status_replied : r ≡ spoken (status_told (lines_polled past a b) (last_settings past).status)
+      status_replied = sym spoke ∙ ap spoken (demand.status_reply past all a b m poll ours)
 
       -- Bit by bit: LAA and RLD at their places, and each other bit the host's.
-      pub status-bits : (w : ℕ) → (last_settings past).status ≡ some w
+      pub status_bits : (w : ℕ) → (last_settings past).status ≡ some w
           → (x : ℕ) × (r ≡ spoken (some (x ∷ []))) × LineBits (lines_polled past a b) w x
-      status-bits w e =
-          let told = demand.status-bits past all a b m poll ours w e in
+      status_bits w e =
+          let told = demand.status_bits past all a b m poll ours w e in
           (told.0, sym spoke ∙ ap spoken told.1, told.2)
 
   -- FC is the number of judged frames, modulo 65,536.
@@ -132,24 +132,24 @@ module _ {past : List Call} {s : World} (calls : Ran past s) where
   module _ (a : ℕ) (o : Opening) (stands : opening_of past a ≡ some o) where
     -- An open sink shows the words of the last sound slave frame that answered its master frame since it was opened, or that there
     -- was none, and its fills are their number.
-    pub sink-shows : o.sink ≡ true
+    pub sink_shows : o.sink ≡ true
         → let l = answers_since past a o.word in
         view s.areas a ≡ some (view_with o (last_of l) (length l % 65536))
-    sink-shows k = rw (← same) (demand.sink-shows past all a o stands k)
+    sink_shows k = rw (← same) (demand.sink_shows past all a o stands k)
 
     -- An open source shows the words that the host last wrote, or that there were none, and its fills are their number.
-    pub source-shows : o.sink ≡ false
+    pub source_shows : o.sink ≡ false
         → let l = writes_since past a in
         view s.areas a ≡ some (view_with o (last_of l) (length l % 65536))
-    source-shows k = rw (← same) (demand.source-shows past all a o stands k)
+    source_shows k = rw (← same) (demand.source_shows past all a o stands k)
 
     -- Asking answers never exactly where nothing filled the port since it was opened.
-    pub ask-never : (x : Answer) → x ≡ asked s.areas a → (x ≡ Never) ↔ (fillings past a o ≡ [])
-    ask-never x e = rw (e, ← same) (demand.ask-never past all a o stands)
+    pub ask_never : (x : Answer) → x ≡ asked s.areas a → (x ≡ Never) ↔ (fillings past a o ≡ [])
+    ask_never x e = rw (e, ← same) (demand.ask_never past all a o stands)
 
     -- An open port is not refused.
-    pub ask-open : (x : Answer) → x ≡ asked s.areas a → refusal_of x ≡ 0
-    ask-open x e = rw (e, ← same) (demand.ask-open past all a o stands)
+    pub ask_open : (x : Answer) → x ≡ asked s.areas a → refusal_of x ≡ 0
+    ask_open x e = rw (e, ← same) (demand.ask_open past all a o stands)
 
     -- The age of an open sink is the milliseconds that ended since its last taken frame, or since its opening, at most 65,535.
     pub age_told_lem : o.sink ≡ true → (port_at s.areas o.port).age ≡ min oldest (age_since past a o.word)
@@ -160,16 +160,16 @@ module _ {past : List Call} {s : World} (calls : Ran past s) where
     faults_told_lem = rw (← same) (ages.faults_told_lem past all a o stands)
 
     -- What asking answers is what the past tells: never, held, stale or good.
-    pub ask-told : (x : Answer) → x ≡ asked s.areas a → x ≡ asked_told past a o
-    ask-told x e = e ∙ rw (← same) (ages.asked_told_lem past all a o stands)
+    pub ask_told : (x : Answer) → x ≡ asked s.areas a → x ≡ asked_told past a o
+    ask_told x e = e ∙ rw (← same) (ages.asked_told_lem past all a o stands)
 
     -- Asking answers stale exactly when the port was filled, is not held, is supervised, and its age is at or above its limit.
     pub ask_stale : (x : Answer) → x ≡ asked s.areas a → (x ≡ Stale) ↔ IsStale past a o
     ask_stale x e = rw (e, ← same) (ages.ask_stale past all a o stands)
 
     -- Fetching hands back the words that filled the port last, and none where nothing did.
-    pub fetch-shows : (ws : List ℕ) → ws ≡ fetched s.areas a → ws ≡ shown_words (last_of (fillings past a o))
-    fetch-shows ws e = e ∙ rw (← same) (demand.fetch-shows past all a o stands)
+    pub fetch_shows : (ws : List ℕ) → ws ≡ fetched s.areas a → ws ≡ shown_words (last_of (fillings past a o))
+    fetch_shows ws e = e ∙ rw (← same) (demand.fetch_shows past all a o stands)
 
 -- Whatever the areas hold, what `fetch` hands back is empty exactly when `ask` refuses or answers never, or a page has another length.
 pub empty_exactly : (m : Areas) (a : ℕ) (ws : List ℕ) (x : Answer) → ws ≡ fetched m a → x ≡ asked m a

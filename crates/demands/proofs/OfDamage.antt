@@ -52,14 +52,14 @@ module _ (before stretch calls : List Call) (d : Damage before stretch) (f : Fol
 
   module _ {u : World} (short : Ran (calls ++ before) u) where
     -- After both every address shows the same words with the same fills.
-    pub damage-cut : Unseen s u
-    damage-cut = rw (← (ran long).same, ← (ran short).same) (damage_unseen before stretch calls d f (ran long).all).1
+    pub damage_cut : Unseen s u
+    damage_cut = rw (← (ran long).same, ← (ran short).same) (damage_unseen before stretch calls d f (ran long).all).1
 
     -- They differ in no more than document 01 allows.
-    pub differs-cut : MayDiffer (doubtful before (waiting_address before) calls) u s
-    differs-cut = rw (← (ran long).same, ← (ran short).same) (may_differ before stretch calls d f (ran long).all).1
+    pub differs_cut : MayDiffer (doubtful before (waiting_address before) calls) u s
+    differs_cut = rw (← (ran long).same, ← (ran short).same) (may_differ before stretch calls d f (ran long).all).1
 
     -- And every frame that both lines hear gets the same reply, status polls aside.
     pub replies_cut : {t v : World} {y r q : Hearing} → (code_of (first_word y) ≡ 15 → ⊥) → Made s (hear y y) 0 r t → Made u (hear y y) 0 q v
         → r ≡ q
-    replies_cut {y = y} poll = same_spoken (differs-cut.replies y poll)
+    replies_cut {y = y} poll = same_spoken (differs_cut.replies y poll)

@@ -5,7 +5,7 @@ use Rattle.model.specs.declared.Answer.{Answer}
 use Rattle.model.specs.declared.Controller.{Controller}
 use Rattle.model.specs.Layout.{Areas}
 use Rattle.model.specs.Event.{World, world, silent}
-use Rattle.model.specs.Host.{address, status, reply_time, slm, ls, clearEC, reset, group0, group1, fresh_controller, tell}
+use Rattle.model.specs.Host.{address, status, reply_time, slm, ls, ec_clear, reset, group0, group1, fresh_controller, tell}
 use Rattle.model.specs.Calls.{Call, hear, quiet, open_port, close_port, write_port, read_port, setting, outcome, asked, refusal_of, start}
 use Rattle.model.specs.Past.{Typed}
 use Rattle.host_ports.specs.Host.{out, host_call}
@@ -42,7 +42,7 @@ pub data Made (s : World) : Call → ℕ → Hearing → World → Type 0 where
       → Made s (setting (status w)) 0 silent (world c s.areas)
   by_set_slm : {b : Bool} {c : Controller} → c ≡ tell (slm b) s.controller → Made s (setting (slm b)) 0 silent (world c s.areas)
   by_set_ls : {b : Bool} {c : Controller} → c ≡ tell (ls b) s.controller → Made s (setting (ls b)) 0 silent (world c s.areas)
-  by_clear_ec : {c : Controller} → c ≡ tell clearEC s.controller → Made s (setting clearEC) 0 silent (world c s.areas)
+  by_clear_ec : {c : Controller} → c ≡ tell ec_clear s.controller → Made s (setting ec_clear) 0 silent (world c s.areas)
   by_reset : {c : Controller} → c ≡ fresh_controller → Made s (setting reset) 0 silent (world c s.areas)
   -- host_controller::groups
   by_on_group0 : (k : GroupCall) {r : Reading} → r ≡ reading0 k s.controller

@@ -1,6 +1,6 @@
 // What the host sets, and reset (document 01, "Host calls on ports").
 ghost use Rattle.std.specs.Prelude.{◌≡◌, cond, ◌&&◌};
-ghost use Rattle.model.specs.Host.{fresh_controller, address, status, reply_time, slm, ls, clearEC};
+ghost use Rattle.model.specs.Host.{fresh_controller, address, status, reply_time, slm, ls, ec_clear};
 ghost use Rattle.host_controller.specs.Settings.{told_with};
 ghost use Rattle.firmware_layout.specs.Flags.{is_bit, is_set};
 ghost use Rattle.firmware_layout.specs.Controller.{flat, ours};
@@ -97,7 +97,7 @@ pub extern "C" fn tolvendrum_set_ls(c: FlatController, on: u16) -> FlatTold
 // EC is cleared.
 #[unsafe(no_mangle)]
 pub extern "C" fn tolvendrum_clear_ec(c: FlatController) -> FlatTold
-    ensures { result ≡ set_through (ours c) clearEC c }
+    ensures { result ≡ set_through (ours c) ec_clear c }
 {
     let t = made(settings::clear_ec(state::controller_of(c)));
     flat_told(state::is_ours(c), t, c)

@@ -40,17 +40,17 @@ pub record TurnedAway (f g : FlatController) (m m' : Areas) (c : Call) (n : ℕ)
 pub away_refused : (c : Call) (m : Areas) → away_from c m ≡ 0 → ⊥
 away_refused c m = go c
   where
-    lent-areas : (b : Bool) → ◌≡◌ {A = ℕ} (cond b 2 1) 0 → ⊥
-    lent-areas true e = omega arith
-    lent-areas false e = omega arith
+    lent_areas : (b : Bool) → ◌≡◌ {A = ℕ} (cond b 2 1) 0 → ⊥
+    lent_areas true e = omega arith
+    lent_areas false e = omega arith
 
     go : (x : Call) → away_from x m ≡ 0 → ⊥
-    go (hear a b) = lent-areas (areas_fit m)
-    go (quiet n) = lent-areas (areas_fit m)
-    go (open_port a p code sink i limit) = lent-areas (areas_fit m)
-    go (close_port a) = lent-areas (areas_fit m)
-    go (write_port a ws) = lent-areas (areas_fit m)
-    go (read_port a) = lent-areas (areas_fit m)
+    go (hear a b) = lent_areas (areas_fit m)
+    go (quiet n) = lent_areas (areas_fit m)
+    go (open_port a p code sink i limit) = lent_areas (areas_fit m)
+    go (close_port a) = lent_areas (areas_fit m)
+    go (write_port a ws) = lent_areas (areas_fit m)
+    go (read_port a) = lent_areas (areas_fit m)
     go (setting t) = λ e. omega arith
 
 through_away : (given : Bool) (c : Call) (f : FlatController) (m : Areas) (x : FlatOutcome) → x ≡ through given c f m → given ≡ false

@@ -116,20 +116,20 @@ module _ {given : Bool} {f g : FlatController} {m m' : Areas} {a b h : Hearing} 
   made = accepted_made call refl
 
   -- what the trusted line heard
-  abbrev heardOn : Hearing
-  heardOn = trusted (controller_of f).lines a b
+  abbrev heard_on : Hearing
+  heard_on = trusted (controller_of f).lines a b
 
   -- The reply is a sound slave frame for the code of the master frame.
-  pub reply_sound : SoundMaster heardOn → (h ≡ silent → ⊥) → judged_slave (code_of (first_word heardOn)) h ≡ Sound
+  pub reply_sound : SoundMaster heard_on → (h ≡ silent → ⊥) → judged_slave (code_of (first_word heard_on)) h ≡ Sound
   reply_sound = inner.reply_sound made
 
   -- It is given to a sound master frame alone.
-  pub no_other_reply : (SoundMaster heardOn → ⊥) → h ≡ silent
+  pub no_other_reply : (SoundMaster heard_on → ⊥) → h ≡ silent
   no_other_reply = inner.no_other_reply made
 
   -- A sound slave frame on the trusted line that answers the waiting word of an open sink fills its port with the words of the frame.
   pub fills : (e : ℕ) (v : Standing) → standing m e ≡ some v → v.sink ≡ true → answers_now (controller_of f) a b v.word ≡ true
-      → m' ≡ filled m v.port (words_of heardOn)
+      → m' ≡ filled m v.port (words_of heard_on)
   fills = inner.fills made
 
   -- Otherwise no area changes but for status bits.

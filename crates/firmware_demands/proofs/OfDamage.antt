@@ -58,9 +58,9 @@ module _ (before stretch calls : List Call) (d : Damage before stretch) (follows
 
   module _ {g : FlatController} {n : Areas} (short : Exported (calls ++ before) g n) where
     -- After both every address shows the same words with the same fills.
-    pub damage-cut : Unseen (world (controller_of f) m) (world (controller_of g) n)
-    damage-cut = demand.damage-cut before stretch calls d follows (ran long) (ran short)
+    pub damage_cut : Unseen (world (controller_of f) m) (world (controller_of g) n)
+    damage_cut = demand.damage_cut before stretch calls d follows (ran long) (ran short)
 
     -- They differ in no more than document 01 allows.
-    pub differs-cut : MayDiffer (doubtful before (waiting_address before) calls) (world (controller_of g) n) (world (controller_of f) m)
-    differs-cut = demand.differs-cut before stretch calls d follows (ran long) (ran short)
+    pub differs_cut : MayDiffer (doubtful before (waiting_address before) calls) (world (controller_of g) n) (world (controller_of f) m)
+    differs_cut = demand.differs_cut before stretch calls d follows (ran long) (ran short)

@@ -34,8 +34,8 @@ module _ {past : List Call} {f : FlatController} {m : Areas} (calls : Exported p
 
   module _ {given : Bool} {g : FlatController} {m' : Areas} {c : Call} {n : ℕ} {h : Hearing} (call : Called given f m c n h g m') where
     -- In a sequence a call whose arguments are no hearings or no flags answers 2.
-    pub away-range : given ≡ false → n ≡ 2
-    away-range t = away_number_lem call t ∙ go c
+    pub away_range : given ≡ false → n ≡ 2
+    away_range t = away_number_lem call t ∙ go c
       where
         go : (x : Call) → away_from x m ≡ 2
         go (hear a b) = rw (fits calls)
@@ -54,21 +54,21 @@ module _ {past : List Call} {f : FlatController} {m : Areas} (calls : Exported p
         go true e =
             demand.never_six (ran calls)
             (subst (λ (k : ℕ). Made (world (controller_of f) m) c k h (world (controller_of g) m')) z (called_made call e))
-        go false e = omega (arith, z, away-range e)
+        go false e = omega (arith, z, away_range e)
 
   -- ---- demand 2: an accepted event
 
   module _ {given : Bool} {g : FlatController} {m' : Areas} {a b h : Hearing} (call : Called given f m (hear a b) 0 h g m') where
     -- what the trusted line heard
-    abbrev heardNow : Hearing
-    heardNow = on_trusted past a b
+    abbrev heard_now : Hearing
+    heard_now = on_trusted past a b
 
     abbrev made : Made (world (controller_of f) m) (hear a b) 0 h (world (controller_of g) m')
     made = accepted_made call refl
 
     -- A slave frame is taken exactly when it is sound and answers a master frame of one of our open sinks: each address then shows its
     -- words with one fill more, and else what it showed.
-    pub taken_exactly : Typed (hear a b) → (e : ℕ) → view m' e ≡ taken_if (answers past a b) (words_of heardNow) (view m e)
+    pub taken_exactly : Typed (hear a b) → (e : ℕ) → view m' e ≡ taken_if (answers past a b) (words_of heard_now) (view m e)
     taken_exactly = demand.taken_exactly (ran calls) made
 
     -- The port that takes the frame raises its interrupt.
@@ -77,24 +77,24 @@ module _ {past : List Call} {f : FlatController} {m : Areas} (calls : Exported p
     taken_raises = demand.taken_raises (ran calls) made
 
     -- Each reply is exactly what the past tells, for every F-code and whatever was heard.
-    pub replies-exactly : h ≡ spoken (reply_in past a b)
-    replies-exactly = demand.replies-exactly (ran calls) made
+    pub replies_exactly : h ≡ spoken (reply_in past a b)
+    replies_exactly = demand.replies_exactly (ran calls) made
 
     -- A data reply holds the words that the host last wrote.
-    pub data-replied : SoundMaster heardNow → has_ports (code_of (first_word heardNow)) ≡ true
-        → h ≡ spoken (source_told past (first_word heardNow) (opening_of past (address_of (first_word heardNow))))
-    data-replied = demand.data-replied (ran calls) made
+    pub data_replied : SoundMaster heard_now → has_ports (code_of (first_word heard_now)) ≡ true
+        → h ≡ spoken (source_told past (first_word heard_now) (opening_of past (address_of (first_word heard_now))))
+    data_replied = demand.data_replied (ran calls) made
 
-    module _ (sound : SoundMaster heardNow) (poll : code_of (first_word heardNow) ≡ 15)
-        (ours : address_of (first_word heardNow) ≡ (last_settings past).address) where
+    module _ (sound : SoundMaster heard_now) (poll : code_of (first_word heard_now) ≡ 15)
+        (ours : address_of (first_word heard_now) ≡ (last_settings past).address) where
       -- A status reply holds the status word last set, with LAA and RLD as the poll finds them.
-      pub status-replied : h ≡ spoken (status_told (lines_polled past a b) (last_settings past).status)
-      status-replied = demand.status-replied (ran calls) made sound poll ours
+      pub status_replied : h ≡ spoken (status_told (lines_polled past a b) (last_settings past).status)
+      status_replied = demand.status_replied (ran calls) made sound poll ours
 
       -- Bit by bit: LAA and RLD at their places, and each other bit the host's.
-      pub status-bits : (w : ℕ) → (last_settings past).status ≡ some w
+      pub status_bits : (w : ℕ) → (last_settings past).status ≡ some w
           → (x : ℕ) × (h ≡ spoken (some (x ∷ []))) × LineBits (lines_polled past a b) w x
-      status-bits = demand.status-bits (ran calls) made sound poll ours
+      status_bits = demand.status_bits (ran calls) made sound poll ours
 
   -- ---- demand 3: what each address shows
 
@@ -105,16 +105,16 @@ module _ {past : List Call} {f : FlatController} {m : Areas} (calls : Exported p
   module _ (a : ℕ) (o : Opening) (opened : opening_of past a ≡ some o) where
     -- An open sink shows the words of the last sound slave frame that answered its master frame since it was opened, or that there
     -- was none, and its fills are their number.
-    pub sink-shows : o.sink ≡ true
+    pub sink_shows : o.sink ≡ true
         → let l = answers_since past a o.word in
         view m a ≡ some (view_with o (last_of l) (length l % 65536))
-    sink-shows = demand.sink-shows (ran calls) a o opened
+    sink_shows = demand.sink_shows (ran calls) a o opened
 
     -- An open source shows those that the host wrote.
-    pub source-shows : o.sink ≡ false
+    pub source_shows : o.sink ≡ false
         → let l = writes_since past a in
         view m a ≡ some (view_with o (last_of l) (length l % 65536))
-    source-shows = demand.source-shows (ran calls) a o opened
+    source_shows = demand.source_shows (ran calls) a o opened
 
     -- The age of an open sink is the milliseconds that ended since its last taken frame, or since its opening, at most 65,535.
     pub age_told_lem : o.sink ≡ true → (port_at m o.port).age ≡ min oldest (age_since past a o.word)

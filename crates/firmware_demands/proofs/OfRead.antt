@@ -119,13 +119,13 @@ module _ {past : List Call} {f : FlatController} {m : Areas} (calls : Exported p
 
   module _ (a : ℕ) (o : Opening) (opened : opening_of past a ≡ some o) where
     accepts : refusal_of (asked m a) ≡ 0
-    accepts = demand.ask-open (ran calls) a o opened (asked m a) refl
+    accepts = demand.ask_open (ran calls) a o opened (asked m a) refl
 
     -- Asking an open port is not refused, and its state is 0, never, exactly where nothing filled it since it was opened: an empty port
     -- says that it is empty.
-    pub ask-never : {r : Number} → Asks m a r → (r.refusal ≡ 0) × ((r.value ≡ 0) ↔ (fillings past a o ≡ []))
-    ask-never s =
-        let never = demand.ask-never (ran calls) a o opened (asked m a) refl in
+    pub ask_never : {r : Number} → Asks m a r → (r.refusal ≡ 0) × ((r.value ≡ 0) ↔ (fillings past a o ≡ []))
+    ask_never s =
+        let never = demand.ask_never (ran calls) a o opened (asked m a) refl in
         let zeros = value_zero (asked m a) in
         rw (asks_promised s) (
           sym (answer_refusal (asked m a)) ∙ accepts,
@@ -137,8 +137,8 @@ module _ {past : List Call} {f : FlatController} {m : Areas} (calls : Exported p
         only (inr (n, p)) = absurd (not_refused m a accepts n p)
 
     -- What asking answers is what the past tells: 0 never, 1 good, 2 held, 3 stale.
-    pub ask-told : {r : Number} → Asks m a r → r ≡ answer_number (asked_told past a o)
-    ask-told s = asks_promised s ∙ ap answer_number (demand.ask-told (ran calls) a o opened (asked m a) refl)
+    pub ask_told : {r : Number} → Asks m a r → r ≡ answer_number (asked_told past a o)
+    ask_told s = asks_promised s ∙ ap answer_number (demand.ask_told (ran calls) a o opened (asked m a) refl)
 
     -- Its state is 3, stale, exactly where it was filled, is not held, is supervised, and its age is at or above its limit.
     pub ask_stale : {r : Number} → Asks m a r → (r.value ≡ 3) ↔ IsStale past a o
@@ -148,12 +148,12 @@ module _ {past : List Call} {f : FlatController} {m : Areas} (calls : Exported p
         rw (asks_promised s) (λ e. stale.0 (three.0 e), λ x. three.1 (stale.1 x))
 
     -- Fetching hands back the words that filled the port last, then zeros, and none where nothing filled it.
-    pub fetch-shows : {r : Fetched} → Fetches m a r
+    pub fetch_shows : {r : Fetched} → Fetches m a r
         → let ws = shown_words (last_of (fillings past a o)) in
         (r.refusal ≡ 0) × (r.size ≡ length ws) × (r.words ≡ padded ws)
     unfolding fetching
-    fetch-shows s =
-        rw (fetches_promised s, pages_fit_lem m (fits calls), demand.fetch-shows (ran calls) a o opened (fetched m a) refl) (accepts, refl, refl)
+    fetch_shows s =
+        rw (fetches_promised s, pages_fit_lem m (fits calls), demand.fetch_shows (ran calls) a o opened (fetched m a) refl) (accepts, refl, refl)
 
 -- ---- in any memory
 

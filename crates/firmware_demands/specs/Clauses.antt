@@ -3,7 +3,7 @@
 -- arguments: so a line says what the promise says, and no more. Assumes nothing.
 use Rattle.std.specs.Prelude.{ℕ, Bool, ◌&&◌, List}
 use Rattle.model.specs.Layout.{Areas, areas}
-use Rattle.model.specs.Host.{Setting, address, status, reply_time, slm, ls, clearEC}
+use Rattle.model.specs.Host.{Setting, address, status, reply_time, slm, ls, ec_clear}
 use Rattle.areas.specs.Lent.{Slice, ◌&◌, lent}
 use Rattle.host_controller.specs.declared.GroupCall.{GroupCall}
 use Rattle.host_controller.specs.declared.GroupCall.TheVariants.{ReadStatus, ReadVector, WriteStatus, WriteVector, WritePending, WriteMask}
@@ -107,20 +107,20 @@ pub data Set (f : FlatController) : Bool → Setting → FlatTold → Type 0 whe
       → Set f (ours f && is_bit on) (slm (is_set on)) r
   set_ls : (κs : _) (on : ℕ) {r : FlatTold} (left : _) → set-ls-reads.Learnt κs (f & on & tt) r left
       → Set f (ours f && is_bit on) (ls (is_set on)) r
-  clear_ec : (κs : _) {r : FlatTold} (left : _) → clear-ec-reads.Learnt κs (f & tt) r left → Set f (ours f) clearEC r
+  clear_ec : (κs : _) {r : FlatTold} (left : _) → clear-ec-reads.Learnt κs (f & tt) r left → Set f (ours f) ec_clear r
 
 -- ---- group_calls
 
 -- a call on the interrupt group n of the controller f
 pub data OnGroup (f : FlatController) (n : ℕ) : GroupCall → FlatReading → Type 0 where
-  read_status : (κs : _) {r : FlatReading} (left : _) → read-status-reads.Learnt κs (f & n & tt) r left → OnGroup f n ReadStatus r
-  read_vector : (κs : _) {r : FlatReading} (left : _) → read-vector-reads.Learnt κs (f & n & tt) r left → OnGroup f n ReadVector r
-  write_status : (κs : _) {v : ℕ} {r : FlatReading} (left : _) → write-status-reads.Learnt κs (f & n & v & tt) r left
+  read_status_lem : (κs : _) {r : FlatReading} (left : _) → read-status-reads.Learnt κs (f & n & tt) r left → OnGroup f n ReadStatus r
+  read_vector_lem : (κs : _) {r : FlatReading} (left : _) → read-vector-reads.Learnt κs (f & n & tt) r left → OnGroup f n ReadVector r
+  write_status_lem : (κs : _) {v : ℕ} {r : FlatReading} (left : _) → write-status-reads.Learnt κs (f & n & v & tt) r left
       → OnGroup f n (WriteStatus v) r
-  write_vector : (κs : _) {r : FlatReading} (left : _) → write-vector-reads.Learnt κs (f & n & tt) r left → OnGroup f n WriteVector r
-  write_pending : (κs : _) {v : ℕ} {r : FlatReading} (left : _) → write-pending-reads.Learnt κs (f & n & v & tt) r left
+  write_vector_lem : (κs : _) {r : FlatReading} (left : _) → write-vector-reads.Learnt κs (f & n & tt) r left → OnGroup f n WriteVector r
+  write_pending_lem : (κs : _) {v : ℕ} {r : FlatReading} (left : _) → write-pending-reads.Learnt κs (f & n & v & tt) r left
       → OnGroup f n (WritePending v) r
-  write_mask : (κs : _) {v : ℕ} {r : FlatReading} (left : _) → write-mask-reads.Learnt κs (f & n & v & tt) r left
+  write_mask_lem : (κs : _) {v : ℕ} {r : FlatReading} (left : _) → write-mask-reads.Learnt κs (f & n & v & tt) r left
       → OnGroup f n (WriteMask v) r
 
 -- FC was read

@@ -22,7 +22,7 @@ use Rattle.model.specs.Event.{World, world, raise_all, when, heard_by, hear_cont
 use Rattle.model.proofs.Tables.{raised0, raised1, times_after}
 use Rattle.model.specs.Quiet.{bus_timeout, line_timeout, millisecond, times_later, is_some, bus_silent, due, pulse_controller, pulse, millisecond_ends}
 use Rattle.model.specs.Quiet.{grown_if, grown, tick, ticks}
-use Rattle.model.specs.Host.{Setting, address, status, reply_time, slm, ls, clearEC, reset, group0, group1, is_reply_time, setting_out}
+use Rattle.model.specs.Host.{Setting, address, status, reply_time, slm, ls, ec_clear, reset, group0, group1, is_reply_time, setting_out}
 use Rattle.model.specs.Host.{fresh_controller, tell}
 use Rattle.model.specs.Calls.{Call, hear, quiet, open_port, close_port, write_port, read_port, setting, refusal, step, outcome}
 use Rattle.model.proofs.Tables.{hear_controller_lem}
@@ -147,7 +147,7 @@ told_right (reply_time t) c e r =
     r.device
 told_right (slm b) c e r = parts r.phase r.times r.group0 r.group1 r.device
 told_right (ls b) c e r = parts r.phase r.times r.group0 r.group1 r.device
-told_right clearEC c e r = parts r.phase r.times r.group0 r.group1 r.device
+told_right ec_clear c e r = parts r.phase r.times r.group0 r.group1 r.device
 told_right reset c e r = fresh_right
 told_right (group0 g) c e r = parts r.phase r.times (shaped_after g c.group0 r.group0) r.group1 r.device
 told_right (group1 g) c e r = parts r.phase r.times r.group0 (shaped_after g c.group1 r.group1) r.device

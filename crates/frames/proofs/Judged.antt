@@ -30,9 +30,9 @@ faultless false wrong e = rw e
 
 module _ (n : ℕ) (h : Hearing) where
   -- a frame of another size is unsound, and no block is marked
-  pub wrong_size : (h.size ≡ n → ⊥) → Unsound no_wrong ≡ judged n h
+  pub wrong_size_lem : (h.size ≡ n → ⊥) → Unsound no_wrong ≡ judged n h
   unfolding judged counts_right
-  wrong_size d = wrong_counts (marked h) (wrong_of (words_of h) h.checks) (rw (ne_eqb _ _ d))
+  wrong_size_lem d = wrong_counts (marked h) (wrong_of (words_of h) h.checks) (rw (ne_eqb _ _ d))
 
   -- so is one of the right size with another number of check bytes
   pub wrong_ends : h.size ≡ n → (h.ends ≡ blocks n → ⊥) → Unsound no_wrong ≡ judged n h

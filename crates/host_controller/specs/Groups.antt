@@ -3,7 +3,7 @@ use Rattle.std.specs.Prelude.{ℕ}
 use Rattle.interrupts.specs.declared.Group.{Group}
 use Rattle.interrupts.specs.declared.Read.{Read}
 use Rattle.interrupts.specs.Group.{status_read, vector_read}
-use Rattle.interrupts.specs.Calls.{Call, writeStatus, writePending, writeMask, readStatus, readVector, writeVector, group_after}
+use Rattle.interrupts.specs.Calls.{Call, write_status, write_pending, write_mask, read_status, read_vector, write_vector, group_after}
 use Rattle.model.specs.declared.Controller.{Controller}
 use Rattle.model.specs.Host.{tell, group0, group1}
 use Rattle.host_controller.specs.declared.GroupCall.{GroupCall}
@@ -12,12 +12,12 @@ use Rattle.host_controller.specs.declared.GroupCall.TheVariants.{WriteMask}
 use Rattle.host_controller.specs.declared.Reading.{Reading}
 
 abbrev pub call_of : GroupCall → Call
-call_of ReadStatus = readStatus
-call_of ReadVector = readVector
-call_of (WriteStatus v) = writeStatus v
-call_of WriteVector = writeVector
-call_of (WritePending v) = writePending v
-call_of (WriteMask v) = writeMask v
+call_of ReadStatus = read_status
+call_of ReadVector = read_vector
+call_of (WriteStatus v) = write_status v
+call_of WriteVector = write_vector
+call_of (WritePending v) = write_pending v
+call_of (WriteMask v) = write_mask v
 
 -- what a call reads of a group; a write reads nothing
 abbrev pub value_of : GroupCall → Group → ℕ

@@ -1,6 +1,6 @@
 // Document 01, "Host calls on ports": what the host sets, and reset. No call here is lent an area.
 ghost use Rattle.std.specs.Prelude.{◌≡◌, cond};
-ghost use Rattle.model.specs.Host.{fresh_controller, address, status, reply_time, slm, ls, clearEC, is_reply_time, tell};
+ghost use Rattle.model.specs.Host.{fresh_controller, address, status, reply_time, slm, ls, ec_clear, is_reply_time, tell};
 ghost use Rattle.host_controller.specs.Settings.{told_with, told_for};
 
 use crate::Told;
@@ -92,7 +92,7 @@ pub fn set_ls(c: Controller, b: bool) -> Controller
 
 // EC is cleared by the host.
 pub fn clear_ec(c: Controller) -> Controller
-    ensures { result ≡ tell clearEC c }
+    ensures { result ≡ tell ec_clear c }
 {
     let mut e = c.counts;
     e.ec = 0;

@@ -10,7 +10,7 @@ use Rattle.model.specs.declared.Answer.{Answer}
 use Rattle.model.specs.declared.Answer.TheVariants.{Never, Good, Held, Stale, Refused}
 use Rattle.model.specs.Layout.{Areas, areas, tables_fit, pages_fit, areas_fit, entry}
 use Rattle.model.specs.Ports.{valid_words}
-use Rattle.model.specs.Calls.{Call, open_port, close_port, write_port, read_port, outOfRange, refusal, step, outcome_of, outcome, fresh_over}
+use Rattle.model.specs.Calls.{Call, open_port, close_port, write_port, read_port, out_of_range, refusal, step, outcome_of, outcome, fresh_over}
 use Rattle.model.specs.Calls.{port_refusal, asked, part_for, fetched}
 use Rattle.model.proofs.Refused.{accepted}
 use Rattle.model.proofs.Accepted.{InRange, open_range}
@@ -29,7 +29,7 @@ pub open_accepted : (m : Areas) (a p code i : ℕ) {n : ℕ} → n ≡ open_refu
 unfolding port_refusal
 open_accepted m a p code i {n} e z =
     let none = open_number m a p code true i 0 ∙ sym e ∙ eqb-true n 0 z in
-    open_range a p code i (accepted (open_port a p code true i 0) (fresh_over m) none outOfRange)
+    open_range a p code i (accepted (open_port a p code true i 0) (fresh_over m) none out_of_range)
 
 -- the test of the port words is asked only where there is an entry
 excused : (none ill : Bool) (n : ℕ) → cond none 3 (cond (not none && ill) 6 n) ≡ cond none 3 (cond ill 6 n)

@@ -9,7 +9,7 @@ use Rattle.interrupts.specs.declared.Group.{Group}
 use Rattle.interrupts.specs.Names.{used1}
 use Rattle.interrupts.specs.Group.{group, fresh, settled, raised, status_read, bit, highest, vector_of, without, vector_read}
 use Rattle.interrupts.specs.Group.{status_written, released, pending_written, mask_written}
-use Rattle.interrupts.specs.Calls.{Call, raise, writeStatus, writePending, writeMask, readStatus, readVector, writeVector, group_after}
+use Rattle.interrupts.specs.Calls.{Call, raise, write_status, write_pending, write_mask, read_status, read_vector, write_vector, group_after}
 use Rattle.interrupts.specs.Shape.{run, Within, Shaped, Clear, any_has, Kept, LetThrough, Vector, nothing, number}
 use Rattle.interrupts.proofs.Bits.{bit_and_lem, bit_or_lem, bit_off, within_none, within_used, within_part, within_join}
 use Rattle.interrupts.proofs.Highest.{Found, found}
@@ -73,13 +73,13 @@ left (number j l b t off) h = record { each = λ k e. rw (off k, h.each k e) }
 keeps : (c : Call) (g : Group) → Shaped g.used g → Shaped g.used (group_after c g)
 unfolding group_after raised status_read vector_read status_written released pending_written mask_written settled
 keeps (raise n) g h = settles (within_join h.pending (within_used n g.used)) h.mask h.status g.frozen
-keeps (writeStatus v) g h =
+keeps (write_status v) g h =
     record { used = refl; empty = h.empty; pending = h.pending; mask = h.mask; status = within_part v h.status }
-keeps (writePending v) g h = settles (within_used v g.used) h.mask h.status g.frozen
-keeps (writeMask v) g h = settles h.pending (within_used v g.used) h.status g.frozen
-keeps readStatus g h = settles h.pending h.mask h.status true
-keeps readVector g h = settles h.pending h.mask (left (vector_highest g) h.status) true
-keeps writeVector g h = settles h.pending h.mask h.status false
+keeps (write_pending v) g h = settles (within_used v g.used) h.mask h.status g.frozen
+keeps (write_mask v) g h = settles h.pending (within_used v g.used) h.status g.frozen
+keeps read_status g h = settles h.pending h.mask h.status true
+keeps read_vector g h = settles h.pending h.mask (left (vector_highest g) h.status) true
+keeps write_vector g h = settles h.pending h.mask h.status false
 
 -- Every call keeps the shape.
 pub shaped_after : {u : ℕ} (c : Call) (g : Group) → Shaped u g → Shaped u (group_after c g)

@@ -5,15 +5,15 @@ use Rattle.interrupts.specs.Group.{raised, status_read, vector_read, status_writ
 
 -- the calls that leave a group changed; the line is only looked at
 pub data Call : Type 0 where
-  raise writeStatus writePending writeMask : ℕ → Call
-  readStatus readVector writeVector : Call
+  raise write_status write_pending write_mask : ℕ → Call
+  read_status read_vector write_vector : Call
 
 -- the group after a call
 unfoldable pub group_after : Call → Group → Group
 group_after (raise bits) g = raised g bits
-group_after (writeStatus v) g = status_written g v
-group_after (writePending v) g = pending_written g v
-group_after (writeMask v) g = mask_written g v
-group_after readStatus g = (status_read g).group
-group_after readVector g = (vector_read g).group
-group_after writeVector g = released g
+group_after (write_status v) g = status_written g v
+group_after (write_pending v) g = pending_written g v
+group_after (write_mask v) g = mask_written g v
+group_after read_status g = (status_read g).group
+group_after read_vector g = (vector_read g).group
+group_after write_vector g = released g

@@ -22,8 +22,8 @@ use Rattle.model.specs.Layout.{Areas, entry, port_at}
 use Rattle.model.specs.Ports.{code_of, address_of, has_ports, words_in, size_of, well_formed, seek, Standing, standing_of, standing, fill}
 use Rattle.model.specs.Ports.{opened, closed}
 use Rattle.model.specs.Event.{World, open_for, port_for, if_sink, sink_for, taken}
-use Rattle.model.specs.Calls.{open_out, open_port, close_port, write_port, noPort, outOfRange, badEntry, is_taken, badWords, wrongSide}
-use Rattle.model.specs.Calls.{wrongSize, refusal}
+use Rattle.model.specs.Calls.{open_out, open_port, close_port, write_port, no_port, out_of_range, bad_entry, is_taken, bad_words, wrong_side}
+use Rattle.model.specs.Calls.{wrong_size, refusal}
 use Rattle.model.proofs.Shape.{At, Valid, nothing, filling, marking, opening, closing}
 use Rattle.model.proofs.Refused.{accepted}
 
@@ -76,7 +76,7 @@ pub valid_open : (a p code : ℕ) (sink : Bool) (i limit : ℕ) (s : World) → 
     → Valid s.areas (opened a p code sink i limit)
 valid_open a p code sink i limit s e =
     let t = accepted (open_port a p code sink i limit) s e in
-    let r = open_range a p code i (t outOfRange) in
+    let r = open_range a p code i (t out_of_range) in
     let free = neither _ _ (t is_taken) in
     opening r.address r.some_port r.port r.code r.interrupt (eqb-true _ 0 (not-false _ free.0))
     (eqb-true _ 0 (not-false _ free.1))
@@ -95,12 +95,12 @@ module _ (m : Areas) (a : ℕ) (above : ltb 255 (entry m a) ≡ false) (absent :
 
 -- an accepted closing finds the port of the address's entry standing open there
 pub found_close : (a : ℕ) (s : World) → refusal (close_port a) s ≡ 0 → standing s.areas a ≡ some (standing_of s.areas (entry s.areas a))
-found_close a s e = let t = accepted (close_port a) s e in finds s.areas a (t badEntry) (t noPort) (t badWords)
+found_close a s e = let t = accepted (close_port a) s e in finds s.areas a (t bad_entry) (t no_port) (t bad_words)
 
 -- and so does an accepted write
 pub found_write : (a : ℕ) (ws : List ℕ) (s : World) → refusal (write_port a ws) s ≡ 0
     → standing s.areas a ≡ some (standing_of s.areas (entry s.areas a))
-found_write a ws s e = let t = accepted (write_port a ws) s e in finds s.areas a (t badEntry) (t noPort) (t badWords)
+found_write a ws s e = let t = accepted (write_port a ws) s e in finds s.areas a (t bad_entry) (t no_port) (t bad_words)
 
 -- what an accepted closing does to the areas is valid
 pub valid_close : (a : ℕ) (s : World) → refusal (close_port a) s ≡ 0 → Valid s.areas (closed a (entry s.areas a))
@@ -110,14 +110,14 @@ valid_close a s e = closing (record { seen = standing_of s.areas (entry s.areas 
 -- a write goes to a source, and has its size
 pub write_source : (a : ℕ) (ws : List ℕ) (s : World) → refusal (write_port a ws) s ≡ 0 → (standing_of s.areas (entry s.areas a)).sink ≡ false
 unfolding standing_of
-write_source a ws s e = accepted (write_port a ws) s e wrongSide
+write_source a ws s e = accepted (write_port a ws) s e wrong_side
 
 -- what an accepted write does is valid: the port stands open, and the words have its size
 pub valid_write : (a : ℕ) (ws : List ℕ) (s : World) → refusal (write_port a ws) s ≡ 0 → Valid s.areas (fill (entry s.areas a) ws)
 unfolding standing_of
 valid_write a ws s e =
     filling (record { seen = standing_of s.areas (entry s.areas a); there = found_write a ws s e; port = refl; word = refl })
-    (eqb-true _ _ (not-false _ (accepted (write_port a ws) s e wrongSize)))
+    (eqb-true _ _ (not-false _ (accepted (write_port a ws) s e wrong_size)))
 
 -- ---- a bus event
 

@@ -92,14 +92,14 @@ aged_ages k m fits =
     record {
       index = refl;
       long = length_to 255 k m.ports;
-      ports = λ p. ap ageless (aged_any k m fits p) ∙ port-ageless p (ltb 0 p && leb p 255);
+      ports = λ p. ap ageless (aged_any k m fits p) ∙ port_ageless p (ltb 0 p && leb p 255);
       page0 = refl;
       page1 = refl;
     }
   where
-    port-ageless : (p : ℕ) (b : Bool) → ageless (cond b (aged_words k (port_at m p)) (port_at m p)) ≡ ageless (port_at m p)
-    port-ageless p true = words_ageless k (port_at m p)
-    port-ageless p false = refl
+    port_ageless : (p : ℕ) (b : Bool) → ageless (cond b (aged_words k (port_at m p)) (port_at m p)) ≡ ageless (port_at m p)
+    port_ageless p true = words_ageless k (port_at m p)
+    port_ageless p false = refl
 
 -- areas left as they were are the same but for ages
 pub ages_same : (m : Areas) → ButAges m m
@@ -189,13 +189,13 @@ aged_twice j k m fits =
     ((aged_ages j (aged k m) (fits_ages later fits)).long ∙ later.long ∙ sym (aged_ages (k + j) m fits).long)
     (λ p.
     aged_any j (aged k m) (fits_ages later fits) p ∙ ap (aged_port j p) (aged_any k m fits p)
-    ∙ port-twice p (ltb 0 p && leb p 255) ∙ sym (aged_any (k + j) m fits p))
+    ∙ port_twice p (ltb 0 p && leb p 255) ∙ sym (aged_any (k + j) m fits p))
   where
-    port-twice : (p : ℕ) (b : Bool)
+    port_twice : (p : ℕ) (b : Bool)
         → cond b (aged_words j (cond b (aged_words k (port_at m p)) (port_at m p))) (cond b (aged_words k (port_at m p)) (port_at m p))
         ≡ cond b (aged_words (k + j) (port_at m p)) (port_at m p)
-    port-twice p true = words_twice j k (port_at m p)
-    port-twice p false = refl
+    port_twice p true = words_twice j k (port_at m p)
+    port_twice p false = refl
 
 -- words that are well formed for some address are those of an open sink exactly if they are a sink's
 pub sink_formed : (a : ℕ) (w : Words) → well_formed a w ≡ true → open_sink w ≡ (flags_of w.flags).sink
@@ -237,10 +237,10 @@ aged_mark k m a p x fits few well =
     (length_with (aged k m).ports p (marked_words (port_at (aged k m) p) x) ∙ later.long ∙ sym ((aged_ages k (with_port m p w) marked).long ∙ long))
     (λ q. by q (ℕ_discrete q p) ∙ sym (aged_any k (with_port m p w) marked q))
   where
-    port-marked : (b : Bool)
+    port_marked : (b : Bool)
         → marked_words (cond b (aged_words k (port_at m p)) (port_at m p)) x ≡ cond b (aged_words k (marked_words (port_at m p) x)) (marked_words (port_at m p) x)
-    port-marked true = sym (words_marked k a (port_at m p) x well)
-    port-marked false = refl
+    port_marked true = sym (words_marked k a (port_at m p) x well)
+    port_marked false = refl
 
     by : (q : ℕ) → Dec (q ≡ p)
         → words_at (with_words (aged k m).ports p (marked_words (port_at (aged k m) p) x)) q
@@ -252,7 +252,7 @@ aged_mark k m a p x fits few well =
           words_same m.ports p (marked_words (port_at m p) x) (room m fits p few),
           aged_any k m fits p,
         )
-        (port-marked (ltb 0 p && leb p 255))
+        (port_marked (ltb 0 p && leb p 255))
     by q (no ne) =
         rw (
           words_other (aged k m).ports p q (marked_words (port_at (aged k m) p) x) ne,

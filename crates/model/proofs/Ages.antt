@@ -14,7 +14,7 @@ use Rattle.model.specs.Layout.{Areas, entry, flags_of}
 use Rattle.model.specs.Ports.{Standing, standing_of, standing, is_held, too_old, state_of, oldest}
 use Rattle.model.specs.Quiet.{millisecond}
 use Rattle.model.specs.Calls.{Call, refusal, effect, step, asked, start}
-use Rattle.model.specs.Host.{fresh_controller, Setting, address, status, reply_time, slm, ls, clearEC, reset, group0, group1, tell}
+use Rattle.model.specs.Host.{fresh_controller, Setting, address, status, reply_time, slm, ls, ec_clear, reset, group0, group1, tell}
 use Rattle.model.specs.Past.{Happening, hears, passes, sets, changes, happening, change_of, anew, is_reset, Accepted, after, Typed}
 use Rattle.model.specs.Past.{Opening, opening_of, last_of, fillings}
 use Rattle.model.specs.Differ.{ByHost, Hosts}
@@ -40,7 +40,7 @@ module _ (past : List Call) (h : ToldBy past (after past)) (told : AgesTold past
   set_phase (reply_time n) = told.phase
   set_phase (slm b) = told.phase
   set_phase (ls b) = told.phase
-  set_phase clearEC = told.phase
+  set_phase ec_clear = told.phase
   set_phase reset = refl
   set_phase (group0 g) = told.phase
   set_phase (group1 g) = told.phase

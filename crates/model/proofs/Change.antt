@@ -123,10 +123,10 @@ module _ {m n : Areas} {a p e : ℕ} {w : Words} (c : Changed m n a p e w) where
       part : (f : Flags) (k : ℕ) → k ≤ 16 → part_of (valid_page n f) q k ≡ part_of (valid_page m f) q k
       part f k h = go f.vp
         where
-          with-page : Bool → Flags
-          with-page v = record { vp = v; ever = f.ever; src = f.src; sink = f.sink; faults = f.faults }
+          with_page : Bool → Flags
+          with_page v = record { vp = v; ever = f.ever; src = f.src; sink = f.sink; faults = f.faults }
 
-          go : (v : Bool) → part_of (valid_page n (with-page v)) q k ≡ part_of (valid_page m (with-page v)) q k
+          go : (v : Bool) → part_of (valid_page n (with_page v)) q k ≡ part_of (valid_page m (with_page v)) q k
           go true = search (c.page0.other q k ne h, c.page1.other q k ne h)
           go false = search (c.page0.other q k ne h, c.page1.other q k ne h)
 
@@ -157,12 +157,12 @@ module _ {m n : Areas} {a p e : ℕ} {w : Words} (c : Changed m n a p e w) where
         (s.ports q h few)))
 
     -- areas changed so keep their shape
-    pub shape-change : Shape n
-    shape-change = record { fits = c.fits; entries = entries; ports = ports }
+    pub shape_change : Shape n
+    shape_change = record { fits = c.fits; entries = entries; ports = ports }
 
     -- every other address shows what it showed before the change
-    pub standing-other : (b : ℕ) → b ≢ a → standing n b ≡ standing m b
-    standing-other b ne =
+    pub standing_other : (b : ℕ) → b ≢ a → standing n b ≡ standing m b
+    standing_other b ne =
         ⊎_elim (λ z. standing_none n b (c.index.other b ne ∙ z) ∙ sym (standing_none m b z))
         (λ st.
         let st' : Stands n b = record { positive = rw (c.index.other b ne) st.positive; leads = leads_other b ne st.leads } in
@@ -170,10 +170,10 @@ module _ {m n : Areas} {a p e : ℕ} {w : Words} (c : Changed m n a p e w) where
         (look m b s)
 
     -- what a shows is all that changes
-    pub standing-change : {v : Option Standing} → standing n a ≡ v → (b : ℕ) → standing n b ≡ cond (eqb a b) v (standing m b)
-    standing-change here b =
+    pub standing_change : {v : Option Standing} → standing n a ≡ v → (b : ℕ) → standing n b ≡ cond (eqb a b) v (standing m b)
+    standing_change here b =
         dite (ℕ_discrete b a) (λ same. rw (same, eq-eqb a a refl) here)
-        (λ ne. rw (ne_eqb a b (λ same. ne (sym same))) (standing-other b ne))
+        (λ ne. rw (ne_eqb a b (λ same. ne (sym same))) (standing_other b ne))
 
   -- where a has the port p, it shows p
   pub standing_here : 0 < p → e ≡ p → well_formed a w ≡ true → standing n a ≡ some (standing_of n p)

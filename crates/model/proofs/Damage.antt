@@ -22,7 +22,7 @@ use Rattle.model.specs.Layout.{Areas}
 use Rattle.model.specs.Ports.{code_of, viewed, view, apply}
 use Rattle.model.specs.Event.{World, as_heard, as_master, as_slave, heard, heard_by}
 use Rattle.model.specs.Quiet.{times, effect_later, due, pulse_effect, pulse_controller, pulse, pulses, ticks}
-use Rattle.model.specs.Calls.{Call, hear, outOfRange, word_of_heard, refusal, effect, step, answer}
+use Rattle.model.specs.Calls.{Call, hear, out_of_range, word_of_heard, refusal, effect, step, answer}
 use Rattle.model.specs.Past.{after, Typed, Accepted, on_trusted, first_word, awaited}
 use Rattle.model.specs.Taken.{StatusAndAges}
 use Rattle.model.specs.Damage.{harmless, Damaged, Damage, SoundMaster}
@@ -167,7 +167,7 @@ same_master u s k x m =
 pub master_accepted : (u s : World) → Unharmed u s → (x : Hearing) → refusal (hear x x) s ≡ 0 → refusal (hear x x) u ≡ 0
 master_accepted u s k x e =
     accepts (hear x x) u
-    (bus_in u.areas k.areas.shape' _ (word_of_heard (heard_by u.controller x x)) (accepted (hear x x) s e outOfRange))
+    (bus_in u.areas k.areas.shape' _ (word_of_heard (heard_by u.controller x x)) (accepted (hear x x) s e out_of_range))
 
 -- a tail of a run was accepted too
 pub earlier : (later p : List Call) → Accepted (later ++ p) → Accepted p

@@ -14,7 +14,7 @@ use Rattle.model.specs.declared.Answer.{Answer}
 use Rattle.model.specs.declared.Answer.TheVariants.{Never, Good, Held, Stale, Refused}
 use Rattle.model.specs.Layout.{Areas, pages_fit, entry, port_at, flags_of}
 use Rattle.model.specs.Ports.{code_of, size_of, well_formed, valid_words, state_of}
-use Rattle.model.specs.Calls.{read_port, badEntry, noPort, badWords, fresh_over, port_refusal, asked, ShowsNone, part_for, fetched}
+use Rattle.model.specs.Calls.{read_port, bad_entry, no_port, bad_words, fresh_over, port_refusal, asked, ShowsNone, part_for, fetched}
 use Rattle.model.proofs.Refused.{accepted}
 use Rattle.model.proofs.Accepted.{excused}
 use Rattle.model.proofs.Formed.{page_lengths, formed, size_small}
@@ -41,8 +41,8 @@ module _ (m : Areas) (a : ℕ) where
   unfolding port_refusal
   some_words e fit z =
       let t = accepted (read_port a) (fresh_over m) e in
-      let small : entry m a ≤ 255 = ltb-false 255 _ (t badEntry) in
-      let well : well_formed a (port_at m (entry m a)) ≡ true = excused _ _ (t badWords) (t noPort) in
+      let small : entry m a ≤ 255 = ltb-false 255 _ (t bad_entry) in
+      let well : well_formed a (port_at m (entry m a)) ≡ true = excused _ _ (t bad_words) (t no_port) in
       let code = code_of (port_at m (entry m a)).master in
       let n : length part ≡ size_of code =
       part_size _ (entry m a) (size_of code) (page (flags_of (port_at m (entry m a)).flags).vp) small (size_small code) in

@@ -19,7 +19,7 @@ use Rattle.model.specs.declared.Times.{Times}
 use Rattle.model.specs.declared.Words.{Words}
 use Rattle.model.specs.declared.Faults.{Faults}
 use Rattle.model.specs.Layout.{Areas, areas_fit, port_at, words_at, with_words, flags_of}
-use Rattle.model.specs.Ports.{code_of, Standing, standing, Effect, untouched, mark, faulty, marked_words, apply}
+use Rattle.model.specs.Ports.{code_of, Standing, standing, Effect, untouched, fill, mark, opened, closed, faulty, marked_words, apply}
 use Rattle.model.specs.Event.{as_heard, as_master, sink_for, taken}
 use Rattle.model.specs.Quiet.{missed, effect_later}
 use Rattle.model.specs.Taken.{Gentle, still, marks, OnlyStatus, ageless, ButAges, StatusAndAges}
@@ -119,12 +119,18 @@ gentle_only (mark p x) m s (marking at) marks = record { index = refl; page0 = r
     by q (yes e) =
         inr (x, rw e (words_same m.ports p (marked_words (port_at m p) x) (omega (arith, (at_here at).small, (lengths m s).ports))))
     by q (no n) = inl (words_other m.ports p q (marked_words (port_at m p) x) n)
+gentle_only (fill p ws) m s v never = elim never [ ]
+gentle_only (opened a p code sink interrupt limit) m s v never = elim never [ ]
+gentle_only (closed a p) m s v never = elim never [ ]
 
 -- and every address shows the same
 pub gentle_alike : (e : Effect) (m : Areas) → Shape m → Valid m e → Gentle e → Alike (apply e m) m
 gentle_alike e m s v g =
-    record { shape = shape_apply e m s v; shape' = s; stands = λ a. standing_apply e m a s v ∙ unseen-effect e g a (standing m a) }
+    record { shape = shape_apply e m s v; shape' = s; stands = λ a. standing_apply e m a s v ∙ unseen_effect e g a (standing m a) }
   where
-    unseen-effect : (e : Effect) → Gentle e → (a : ℕ) (o : Option Standing) → standing_after e a o ≡ o
-    unseen-effect untouched still a o = refl
-    unseen-effect (mark p x) marks a o = refl
+    unseen_effect : (e : Effect) → Gentle e → (a : ℕ) (o : Option Standing) → standing_after e a o ≡ o
+    unseen_effect untouched still a o = refl
+    unseen_effect (mark p x) marks a o = refl
+    unseen_effect (fill p ws) never a o = elim never [ ]
+    unseen_effect (opened b p code sink interrupt limit) never a o = elim never [ ]
+    unseen_effect (closed b p) never a o = elim never [ ]

@@ -17,7 +17,7 @@ use Rattle.model.specs.declared.Controller.{Controller}
 use Rattle.model.specs.Layout.{Areas, entry}
 use Rattle.model.specs.Ports.{Standing, standing_of, standing, Effect, untouched, fill, opened, closed, apply}
 use Rattle.model.specs.Quiet.{times}
-use Rattle.model.specs.Host.{fresh_controller, is_reply_time, setting_out, Setting, address, status, reply_time, slm, ls, clearEC, reset}
+use Rattle.model.specs.Host.{fresh_controller, is_reply_time, setting_out, Setting, address, status, reply_time, slm, ls, ec_clear, reset}
 use Rattle.model.specs.Host.{group0, group1, tell}
 use Rattle.model.specs.Calls.{Call, quiet, open_port, close_port, write_port, read_port, setting, refusal, effect, step}
 use Rattle.model.specs.Past.{fresh_settings, Change, keeps, opens, closes, writes, changes, happening, leaves, after, is_reset, settings_by, awaited}
@@ -320,7 +320,7 @@ module _ (past : List Call) (c : Controller) (m : Areas) (h : Told past c m) whe
   set_told (reply_time t) e = time_told t (not-false _ e)
   set_told (slm b) e = kept_told past (slm b) c (tell (slm b) c) m refl refl refl refl h.status h.address h.fc h.ec h
   set_told (ls b) e = kept_told past (ls b) c (tell (ls b) c) m refl refl refl refl h.status h.address h.fc h.ec h
-  set_told clearEC e = kept_told past clearEC c (tell clearEC c) m refl refl refl refl h.status h.address h.fc refl h
+  set_told ec_clear e = kept_told past ec_clear c (tell ec_clear c) m refl refl refl refl h.status h.address h.fc refl h
   set_told reset e = reset_told
   set_told (group0 g) e = kept_told past (group0 g) c (tell (group0 g) c) m refl refl refl refl h.status h.address h.fc h.ec h
   set_told (group1 g) e = kept_told past (group1 g) c (tell (group1 g) c) m refl refl refl refl h.status h.address h.fc h.ec h

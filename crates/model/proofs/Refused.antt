@@ -9,7 +9,7 @@ use mathlib.Core.Option.{none}
 use native.Mathlib.Omega.{arith}
 use borrow.Author.Tests.{ne_eqb}
 use Rattle.model.specs.Event.{World, spoken}
-use Rattle.model.specs.Calls.{Call, TestName, badArea, outOfRange, badEntry, noPort, is_taken, badWords, wrongSide, wrongSize}
+use Rattle.model.specs.Calls.{Call, TestName, bad_area, out_of_range, bad_entry, no_port, is_taken, bad_words, wrong_side, wrong_size}
 use Rattle.model.specs.Calls.{refusal_number, Test, tests, first_of, refusal, outcome, name-discrete, Silent, First, here, later}
 
 -- what `first_of` says: no test holds, or the number is that of the first that does
@@ -35,14 +35,14 @@ silent_zero (t ∷ ts) s = rw s.0 (silent_zero ts s.1)
 
 -- each test has a number
 numbered : (k : TestName) → 0 < refusal_number k
-numbered badArea = omega arith
-numbered outOfRange = omega arith
-numbered badEntry = omega arith
-numbered noPort = omega arith
+numbered bad_area = omega arith
+numbered out_of_range = omega arith
+numbered bad_entry = omega arith
+numbered no_port = omega arith
 numbered is_taken = omega arith
-numbered badWords = omega arith
-numbered wrongSide = omega arith
-numbered wrongSize = omega arith
+numbered bad_words = omega arith
+numbered wrong_side = omega arith
+numbered wrong_size = omega arith
 
 positive : {ts : List Test} {n : ℕ} → First ts n → 0 < n
 positive (here {t} e) = numbered t.name

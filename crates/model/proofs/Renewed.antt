@@ -11,7 +11,7 @@ use borrow.Author.Tests.{eqb-true, eqb-false, eq-eqb, ne_eqb}
 use Rattle.model.specs.Layout.{Areas, entry, port_at}
 use Rattle.model.specs.Ports.{well_formed, Standing, standing_of, standing, Effect, untouched, fill, mark, opened, closed}
 use Rattle.model.specs.Calls.{Call, hear, quiet, open_port, close_port, write_port, read_port, setting, refusal, effect}
-use Rattle.model.specs.Past.{opening as anOpening, keeps, opens, writes, change_of, happening, anew, after, Opening, opening_of, last_of, fillings}
+use Rattle.model.specs.Past.{opening as an_opening, keeps, opens, writes, change_of, happening, anew, after, Opening, opening_of, last_of, fillings}
 use Rattle.model.specs.Differ.{Hosts}
 use Rattle.model.proofs.Shape.{Valid, opening}
 use Rattle.model.proofs.Formed.{formed_used}
@@ -78,8 +78,8 @@ module _ (past : List Call) (h : ToldBy past (after past)) where
     where
       go : (k : Bool) → eqb b a ≡ k → Valid M (opened b p code sink i limit) → Renewal past (open_port b p code sink i limit) a o
       go true k ok =
-          let same : some (anOpening b p code sink i limit) ≡ some o = rw k at e in
-          opened_anew {x = anOpening b p code sink i limit} (rw k)
+          let same : some (an_opening b p code sink i limit) ≡ some o = rw k at e in
+          opened_anew {x = an_opening b p code sink i limit} (rw k)
           (eq-eqb o.port p (sym (ap (λ (x : Opening). x.port) (some-injective _ _ same))))
       go false k (opening ha pos hp hc hi absent unused) =
           let before : opening_of past a ≡ some o = rw k at e in

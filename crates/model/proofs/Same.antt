@@ -16,7 +16,7 @@ use Rattle.model.specs.Layout.{Areas, entry}
 use Rattle.model.specs.Ports.{address_of, Standing, standing, Effect, fill, closed, apply}
 use Rattle.model.specs.Lines.{trusted}
 use Rattle.model.specs.declared.Lines.{Lines}
-use Rattle.model.specs.Host.{device, Setting, address, status, reply_time, slm, ls, clearEC, reset, group0, group1, tell}
+use Rattle.model.specs.Host.{device, Setting, address, status, reply_time, slm, ls, ec_clear, reset, group0, group1, tell}
 use Rattle.model.specs.Calls.{Call, hear, quiet, open_port, close_port, write_port, read_port, setting, refusal, effect, step}
 use Rattle.model.specs.Past.{Happening, hears, passes, sets, changes, happening, Typed}
 use Rattle.model.specs.Damage.{HeardAlike}
@@ -233,7 +233,7 @@ exchange_set (status w) c d e = e
 exchange_set (reply_time n) c d e = e
 exchange_set (slm b) c d e = e
 exchange_set (ls b) c d e = e
-exchange_set clearEC c d e = e
+exchange_set ec_clear c d e = e
 exchange_set reset c d e = refl
 exchange_set (group0 g) c d e = e
 exchange_set (group1 g) c d e = e
@@ -245,7 +245,7 @@ times_set (status w) c d e = e
 times_set (reply_time n) c d e = ap (λ (x : Times). times x.since x.line n x.adopted) e
 times_set (slm b) c d e = e
 times_set (ls b) c d e = e
-times_set clearEC c d e = e
+times_set ec_clear c d e = e
 times_set reset c d e = refl
 times_set (group0 g) c d e = e
 times_set (group1 g) c d e = e
@@ -258,7 +258,7 @@ device_set (status w) c d e = ap (λ (x : Device). device x.address true w) e
 device_set (reply_time n) c d e = e
 device_set (slm b) c d e = e
 device_set (ls b) c d e = e
-device_set clearEC c d e = e
+device_set ec_clear c d e = e
 device_set reset c d e = refl
 device_set (group0 g) c d e = e
 device_set (group1 g) c d e = e

@@ -18,7 +18,7 @@ use Rattle.model.specs.declared.Words.{Words}
 use Rattle.model.specs.Layout.{Areas, entry, port_at, flags_of}
 use Rattle.model.specs.Ports.{code_of, is_held, too_old, state_by, state_of, Standing, standing}
 use Rattle.model.specs.Event.{World}
-use Rattle.model.specs.Calls.{Call, hear, read_port, noPort, fresh_over, port_refusal, refusal, answer, asked, fetched}
+use Rattle.model.specs.Calls.{Call, hear, read_port, no_port, fresh_over, port_refusal, refusal, answer, asked, fetched}
 use Rattle.model.specs.Past.{after, Accepted, first_word}
 use Rattle.model.specs.Taken.{ageless, ButAges}
 use Rattle.model.specs.Damage.{Damage, SoundMaster}
@@ -97,7 +97,7 @@ closed_refused m a z = go (eqb (refusal (read_port a) (fresh_over m)) 0) refl
   where
     go : (b : Bool) → eqb (refusal (read_port a) (fresh_over m)) 0 ≡ b
         → (n : ℕ) × (cond b (state_of (port_at m (entry m a))) (Refused (refusal (read_port a) (fresh_over m))) ≡ Refused n)
-    go true e = absurd (true≢false (sym (eq-eqb _ 0 z) ∙ accepted (read_port a) (fresh_over m) (eqb-true _ _ e) noPort))
+    go true e = absurd (true≢false (sym (eq-eqb _ 0 z) ∙ accepted (read_port a) (fresh_over m) (eqb-true _ _ e) no_port))
     go false e = (refusal (read_port a) (fresh_over m), refl)
 
 -- so nothing is fetched there

@@ -23,8 +23,8 @@ use Rattle.model.proofs.Pages.{part_same}
 use Rattle.model.proofs.Formed.{lengths, formed, one_address, filled_formed, marked_formed, open_flags, open_formed, formed_used}
 use Rattle.model.proofs.Formed.{size_small}
 use Rattle.model.proofs.Standings.{standing_none, standing_at_lem}
-use Rattle.model.proofs.Change.{entry_kept, entry_set, part_kept, part_set, part_either, Own, Changed, changed, shape-change}
-use Rattle.model.proofs.Change.{standing-other, standing-change, standing_here}
+use Rattle.model.proofs.Change.{entry_kept, entry_set, part_kept, part_set, part_either, Own, Changed, changed, shape_change}
+use Rattle.model.proofs.Change.{standing_other, standing_change, standing_here}
 
 -- ---- cleared areas
 
@@ -102,7 +102,7 @@ module _ {m : Areas} (s : Shape m) (a p code : ℕ) (sink : Bool) (i limit : ℕ
   standing_open b =
       let fresh : standing_of (apply (opened a p code sink i limit) m) p ≡ just_opened a p code sink i limit =
       rw (open_change.words_here, flags_of_word (open_flags sink)) in
-      standing-change open_change s (standing_here open_change pos refl (open_formed a code sink i limit ha hc hi) ∙ ap some fresh) b
+      standing_change open_change s (standing_here open_change pos refl (open_formed a code sink i limit ha hc hi) ∙ ap some fresh) b
 
 module _ {m : Areas} {a p w : ℕ} (s : Shape m) (h : Here m a p w) where
   close_change : Changed m (apply (closed a p) m) a p 0 no_words
@@ -112,7 +112,7 @@ module _ {m : Areas} {a p w : ℕ} (s : Shape m) (h : Here m a p w) where
       changed s (own_here h) (entry_set m.index a 0 low) (part_kept p m.page0) (part_kept p m.page1) (inl (refl, refl))
 
   standing_close : (b : ℕ) → standing (apply (closed a p) m) b ≡ cond (eqb a b) none (standing m b)
-  standing_close b = standing-change close_change s (standing_none (apply (closed a p) m) a close_change.index.here) b
+  standing_close b = standing_change close_change s (standing_none (apply (closed a p) m) a close_change.index.here) b
 
   mark_change : (x : Faults) → Changed m (apply (mark p x) m) a p p (marked_words (port_at m p) x)
   unfolding apply
@@ -131,7 +131,7 @@ module _ {m : Areas} {a p w : ℕ} (s : Shape m) (h : Here m a p w) where
       (λ same.
       rw (same, h.standing, ← (standing_of_mark x))
       (standing_here c h.positive refl (marked_formed a (port_at m p) x h.formed)))
-      (λ ne. standing-other c s b ne)
+      (λ ne. standing_other c s b ne)
 
   fill_change : (ws : List ℕ) → length ws ≡ size_of (code_of w) → Changed m (apply (fill p ws) m) a p p (filled_words (port_at m p))
   unfolding apply filled
@@ -174,7 +174,7 @@ module _ {m : Areas} {a p w : ℕ} (s : Shape m) (h : Here m a p w) where
       (λ same.
       rw (same, h.standing, eq-eqb p p refl, ← (standing_of_fill ws size))
       (standing_here c h.positive refl (filled_formed a (port_at m p) h.formed)))
-      (λ ne. standing-other c s b ne ∙ sym (unfilled ws b ne))
+      (λ ne. standing_other c s b ne ∙ sym (unfilled ws b ne))
 
 -- ---- every effect
 
@@ -182,11 +182,11 @@ module _ {m : Areas} {a p w : ℕ} (s : Shape m) (h : Here m a p w) where
 pub shape_apply : (e : Effect) (m : Areas) → Shape m → Valid m e → Shape (apply e m)
 unfolding apply
 shape_apply e m s nothing = s
-shape_apply e m s (filling {ws = ws} at size) = shape-change (fill_change s (at_here at) ws size) s
-shape_apply e m s (marking {x = x} at) = shape-change (mark_change s (at_here at) x) s
+shape_apply e m s (filling {ws = ws} at size) = shape_change (fill_change s (at_here at) ws size) s
+shape_apply e m s (marking {x = x} at) = shape_change (mark_change s (at_here at) x) s
 shape_apply e m s (opening {a} {p} {code} {sink} {i} {limit} ha pos hp hc hi free unused) =
-    shape-change (open_change s a p code sink i limit ha pos hp hc hi free unused) s
-shape_apply e m s (closing at) = shape-change (close_change s (at_here at)) s
+    shape_change (open_change s a p code sink i limit ha pos hp hc hi free unused) s
+shape_apply e m s (closing at) = shape_change (close_change s (at_here at)) s
 
 -- Every valid effect does to what stands at an address what `standing_after` says.
 pub standing_apply : (e : Effect) (m : Areas) (b : ℕ) → Shape m → Valid m e → standing (apply e m) b ≡ standing_after e b (standing m b)

@@ -123,9 +123,9 @@ module _ (m : Areas) (h : Hearing) (w : ℕ) where
 
   -- the sink u is found for w: it is the one port that takes the frame
   module _ (u : Standing) (found : sink_for m w ≡ some u) (sound : judged_slave (code_of w) h ≡ Sound) where
-    one-port : (a : ℕ) (v : Standing) → standing m a ≡ some v → eqb v.port u.port ≡ (v.sink && passes v.word)
+    one_port : (a : ℕ) (v : Standing) → standing m a ≡ some v → eqb v.port u.port ≡ (v.sink && passes v.word)
     unfolding passes
-    one-port a v e = found_port m w u found a v e ∙ ap (λ (b : Bool). v.sink && b) (go (eqb w v.word) refl)
+    one_port a v e = found_port m w u found a v e ∙ ap (λ (b : Bool). v.sink && b) (go (eqb w v.word) refl)
       where
         go : (c : Bool) → eqb w v.word ≡ c → c ≡ (c && is_sound (judged_slave (code_of v.word) h))
         go true ec = rw (← (eqb-true w v.word ec), sound)
@@ -147,7 +147,7 @@ module _ (m : Areas) (h : Hearing) (w : ℕ) where
           blank (some u) Sound = refl
           blank (some u) (Bad wrong) = refl
       go none eo j ej (some v) ex = rw (none_open eo a v ex)
-      go (some u) eo Sound ej (some v) ex = rw (one-port u eo ej a v ex)
+      go (some u) eo Sound ej (some v) ex = rw (one_port u eo ej a v ex)
       go (some u) eo (Bad wrong) ej (some v) ex = none_taken passes (words_of h) (some v) (unsound_passes ej)
 
 -- A slave frame is taken exactly when it is a sound answer to the master word of an open sink; no other frame is seen at any address.
@@ -193,7 +193,7 @@ fills_exactly m h SlaveFrame (Waiting w) t l a v e = rw (waits_now w t l) (go (s
     go : (o : Option Standing) → sink_for m w ≡ o → (j : Judgement) → judged_slave (code_of w) h ≡ j
         → fills_port (taken o j h) v.port ≡ (v.sink && passes m h w v.word)
     go none eo j ej = sym (none_open m h w eo a v e)
-    go (some u) eo Sound ej = one-port m h w u eo ej a v e
+    go (some u) eo Sound ej = one_port m h w u eo ej a v e
     go (some u) eo (Bad wrong) ej = sym (ap (λ (b : Bool). v.sink && b) (unsound_passes m h w ej v.word) ∙ and-false v.sink)
 
 -- What a bus event does to the areas is valid.
@@ -217,12 +217,12 @@ module _ (m : Areas) (h : Hearing) where
   unfolding passes
   waiting_took w = go (sink_for m w) refl (judged_slave (code_of w) h) refl
     where
-      open-sink : sink_for m w ≡ none → (a : ℕ) (v : Standing) → standing m a ≡ some v → v.sink ≡ true → passes m h w v.word ≡ false
-      open-sink n a v e k = rw k at (none_open m h w n a v e)
+      open_sink_lem : sink_for m w ≡ none → (a : ℕ) (v : Standing) → standing m a ≡ some v → v.sink ≡ true → passes m h w v.word ≡ false
+      open_sink_lem n a v e k = rw k at (none_open m h w n a v e)
 
       go : (o : Option Standing) → sink_for m w ≡ o → (j : Judgement) → judged_slave (code_of w) h ≡ j
           → Took (sound_answer SlaveFrame (some w) h) m h (taken o j h)
-      go none eo j ej = spares still (open-sink eo)
+      go none eo j ej = spares still (open_sink_lem eo)
       go (some u) eo Sound ej = let k = sink_open_lem m w u eo in takes (address_of w) u k.there k.sink (rw (k.word, eq-eqb w w refl, ej))
       go (some u) eo (Bad wrong) ej = spares marks (λ a v e k. unsound_passes m h w ej v.word)
 

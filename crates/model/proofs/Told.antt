@@ -1,7 +1,7 @@
 -- The invariant of runs: after any past of accepted calls, controller and areas are as the past tells. Assumes nothing.
 use mathlib.Core.Path.{◌≡◌, refl}
 use mathlib.Core.List.{List, [], ◌∷◌}
-use Rattle.model.specs.Calls.{Call, hear, quiet, open_port, close_port, write_port, read_port, setting, outOfRange, refusal, step}
+use Rattle.model.specs.Calls.{Call, hear, quiet, open_port, close_port, write_port, read_port, setting, out_of_range, refusal, step}
 use Rattle.model.specs.Calls.{cleared_areas, start}
 use Rattle.model.specs.Past.{after, Typed, Accepted, awaited, opening_of, count_since, frames_judged, last_settings, frames_unsound}
 use Rattle.model.proofs.ShapeKept.{shape_cleared, standing_cleared}
@@ -25,7 +25,7 @@ step_told past (close_port b) ty r h = close_told past b r h
 step_told past (write_port b ws) ty r h = write_told past b ws r h
 step_told past (read_port b) ty r h = read_told past b h
 step_told past (setting t) ty r h =
-    set_told past (after past).controller (after past).areas h t (accepted (setting t) (after past) r outOfRange)
+    set_told past (after past).controller (after past).areas h t (accepted (setting t) (after past) r out_of_range)
 
 -- After every past of accepted calls, controller and areas are as the past tells.
 pub past_told : (past : List Call) → Accepted past → Told past (after past).controller (after past).areas

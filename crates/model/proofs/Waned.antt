@@ -18,7 +18,7 @@ use Rattle.model.specs.declared.Exchange.TheVariants.{Idle, Waiting, Done}
 use Rattle.model.specs.declared.Times.{Times}
 use Rattle.model.specs.declared.Device.{Device}
 use Rattle.model.specs.Layout.{Areas, port_at}
-use Rattle.model.specs.Ports.{Effect, untouched, mark, marked_words, apply}
+use Rattle.model.specs.Ports.{Effect, untouched, fill, mark, opened, closed, marked_words, apply}
 use Rattle.model.specs.Event.{World, as_master, as_heard, heard, heard_by, sink_for, hear_effect}
 use Rattle.model.specs.Quiet.{since_later, expired, exchange_later, due, effect_later, pulse_effect, pulse_controller, pulse, pulses, ticks}
 use Rattle.model.specs.Calls.{Call, hear, effect, step}
@@ -60,6 +60,9 @@ gentle_same : (e : Effect) (m : Areas) (p : ℕ) → Gentle e → (port_affected
 unfolding apply
 gentle_same untouched m p still n = refl
 gentle_same (mark q x) m p marks n = words_other m.ports q p (marked_words (port_at m q) x) (λ i. n (ap some (sym i)))
+gentle_same (fill q ws) m p never n = elim never [ ]
+gentle_same (opened a q code sink interrupt limit) m p never n = elim never [ ]
+gentle_same (closed a q) m p never n = elim never [ ]
 
 -- the port whose word is waited for, by the world
 abbrev waits_at : World → Option ℕ
@@ -80,7 +83,7 @@ waned_trans u s r f g =
     record {
       kept = kept_trans u s r f.kept g.kept;
       wait = join f.wait g.wait;
-      same = λ p n. g.same p (λ e. n (still-waits p e f.wait)) ∙ f.same p n;
+      same = λ p n. g.same p (λ e. n (still_waits p e f.wait)) ∙ f.same p n;
     }
   where
     join : {a b c : Option ℕ} → (b ≡ a) ⊎ (b ≡ none) → (c ≡ b) ⊎ (c ≡ none) → (c ≡ a) ⊎ (c ≡ none)
@@ -88,13 +91,13 @@ waned_trans u s r f g =
     join (inr p) (inl q) = inr (q ∙ p)
     join p (inr q) = inr q
 
-    still-waits : (p : ℕ) → waits_at s ≡ some p
+    still_waits : (p : ℕ) → waits_at s ≡ some p
         → (wait_word s.controller.exchange ≡ wait_word u.controller.exchange) ⊎ (wait_word s.controller.exchange ≡ none)
         → waits_at u ≡ some p
-    still-waits p e (inl i) =
+    still_waits p e (inl i) =
         sym (same_sink s.areas u.areas f.kept.areas (wait_word u.controller.exchange))
         ∙ ap (sink_port s.areas) (sym i) ∙ e
-    still-waits p e (inr i) = absurd (nothing_there (ap (sink_port s.areas) (sym i) ∙ e))
+    still_waits p e (inr i) = absurd (nothing_there (ap (sink_port s.areas) (sym i) ∙ e))
 
 -- ---- quiet time
 

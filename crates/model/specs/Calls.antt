@@ -32,19 +32,19 @@ pub data Call : Type 0 where
 
 -- the tests, by their names
 pub data TestName : Type 0 where
-  badArea outOfRange badEntry noPort is_taken badWords wrongSide wrongSize : TestName
+  bad_area out_of_range bad_entry no_port is_taken bad_words wrong_side wrong_size : TestName
   deriving Discrete as name-discrete
 
 -- 1 AREA, 2 RANGE, 3 NOPORT, 4 TAKEN, 5 SIDE, 6 DAMAGED
 abbrev pub refusal_number : TestName → ℕ
-refusal_number badArea = 1
-refusal_number outOfRange = 2
-refusal_number badEntry = 6
-refusal_number noPort = 3
+refusal_number bad_area = 1
+refusal_number out_of_range = 2
+refusal_number bad_entry = 6
+refusal_number no_port = 3
 refusal_number is_taken = 4
-refusal_number badWords = 6
-refusal_number wrongSide = 5
-refusal_number wrongSize = 2
+refusal_number bad_words = 6
+refusal_number wrong_side = 5
+refusal_number wrong_size = 2
 
 pub record Test : Type 0 where
   pub name : TestName
@@ -55,15 +55,15 @@ test n b = record { name = n; given = b }
 
 -- an area has another length
 abbrev pub area_test : Areas → Test
-area_test m = test badArea (not (areas_fit m))
+area_test m = test bad_area (not (areas_fit m))
 
 -- the index table or the port words have another length: of asking, which is lent these two
 abbrev pub table_test : Areas → Test
-table_test m = test badArea (not (tables_fit m))
+table_test m = test bad_area (not (tables_fit m))
 
 -- an argument is out of range
 abbrev pub range_test : Bool → Test
-range_test out = test outOfRange out
+range_test out = test out_of_range out
 
 -- an index entry needed is above 255
 abbrev pub entry_above : Areas → Option ℕ → Bool
@@ -71,11 +71,11 @@ entry_above m none = false
 entry_above m (some a) = ltb 255 (entry m a)
 
 abbrev pub entry_test : Areas → Option ℕ → Test
-entry_test m o = test badEntry (entry_above m o)
+entry_test m o = test bad_entry (entry_above m o)
 
 -- the index entry is 0
 abbrev pub no_port_test : Areas → ℕ → Test
-no_port_test m a = test noPort (eqb (entry m a) 0)
+no_port_test m a = test no_port (eqb (entry m a) 0)
 
 -- the address has an entry, or word 1 of that port is not 0
 abbrev pub taken_test : Areas → ℕ → ℕ → Test
@@ -87,15 +87,15 @@ ill_formed m none = false
 ill_formed m (some a) = not (eqb (entry m a) 0) && not (well_formed a (port_at m (entry m a)))
 
 abbrev pub words_test : Areas → Option ℕ → Test
-words_test m o = test badWords (ill_formed m o)
+words_test m o = test bad_words (ill_formed m o)
 
 -- the host writes to a sink
 abbrev pub side_test : Areas → ℕ → Test
-side_test m a = test wrongSide (flags_of (port_at m (entry m a)).flags).sink
+side_test m a = test wrong_side (flags_of (port_at m (entry m a)).flags).sink
 
 -- a write has not the port's size
 abbrev pub size_test : Areas → ℕ → List ℕ → Test
-size_test m a ws = test wrongSize (not (eqb (length ws) (size_of (code_of (port_at m (entry m a)).master))))
+size_test m a ws = test wrong_size (not (eqb (length ws) (size_of (code_of (port_at m (entry m a)).master))))
 
 -- ---- the order: 1, 2, 6 for the entry, 3 or 4, 6 for the port words (not on opening), 5, 2 for the size of a write
 

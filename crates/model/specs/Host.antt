@@ -31,7 +31,7 @@ pub data Setting : Type 0 where
   -- single line mode; a line switch filed, or withdrawn
   slm ls : Bool → Setting
   -- EC is cleared by the host; a reset makes a fresh controller, and touches no area
-  clearEC reset : Setting
+  ec_clear reset : Setting
   group0 group1 : GroupCall → Setting
 
 -- reply times: 32, 64, 96, 128
@@ -45,7 +45,7 @@ setting_out (status w) = false
 setting_out (reply_time t) = not (is_reply_time t)
 setting_out (slm b) = false
 setting_out (ls b) = false
-setting_out clearEC = false
+setting_out ec_clear = false
 setting_out reset = false
 setting_out (group0 g) = false
 setting_out (group1 g) = false
@@ -57,7 +57,7 @@ tell (status w) c = with_device (device c.device.address true w) c
 tell (reply_time t) c = with_times (times c.times.since c.times.line t c.times.adopted) c
 tell (slm b) c = with_lines (lines c.lines.laa c.lines.rld c.lines.ls b) c
 tell (ls b) c = with_lines (lines c.lines.laa c.lines.rld b c.lines.slm) c
-tell clearEC c = with_counts (counts c.counts.fc 0) c
+tell ec_clear c = with_counts (counts c.counts.fc 0) c
 tell reset c = fresh_controller
 tell (group0 g) c = with_group0 (group_after g c.group0) c
 tell (group1 g) c = with_group1 (group_after g c.group1) c

@@ -16,7 +16,7 @@ use Rattle.model.specs.declared.Lines.{Lines}
 use Rattle.model.specs.Lines.{trusted, observed, with_rld, is_poor, status_with}
 use Rattle.model.specs.Event.{World}
 use Rattle.model.specs.Quiet.{first_reply_time}
-use Rattle.model.specs.Host.{Setting, address, status, reply_time, slm, ls, clearEC, reset, group0, group1}
+use Rattle.model.specs.Host.{Setting, address, status, reply_time, slm, ls, ec_clear, reset, group0, group1}
 use Rattle.model.specs.Calls.{Call, hear, quiet, open_port, close_port, write_port, read_port, setting, refusal, step, start}
 
 -- ---- runs
@@ -115,7 +115,7 @@ clears ec (status w) = false
 clears ec (reply_time t) = false
 clears ec (slm b) = false
 clears ec (ls b) = false
-clears ec clearEC = ec
+clears ec ec_clear = ec
 clears ec reset = true
 clears ec (group0 g) = false
 clears ec (group1 g) = false
@@ -146,7 +146,7 @@ settings_by (status w) x = settings x.address (some w) x.reply_time
 settings_by (reply_time t) x = settings x.address x.status t
 settings_by (slm b) x = x
 settings_by (ls b) x = x
-settings_by clearEC x = x
+settings_by ec_clear x = x
 settings_by reset x = fresh_settings
 settings_by (group0 g) x = x
 settings_by (group1 g) x = x

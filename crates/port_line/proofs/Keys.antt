@@ -12,7 +12,7 @@ use Rattle.port_digits.specs.Read.{cut}
 use Rattle.frames.specs.declared.Hearing.{Hearing}
 use Rattle.model.specs.Calls.{hear, quiet, open_port, write_port, outcome}
 use Rattle.port_text.specs.declared.Key.{Key}
-use Rattle.port_text.specs.Line.{Line, addr, fcode, index, frame, quiet as quietLine, write, malformed, numbered}
+use Rattle.port_text.specs.Line.{Line, addr, fcode, index, frame, quiet as quiet_line, write, malformed, numbered}
 use Rattle.port_text.specs.Line.{written, key_of, line_as, line_of}
 use Rattle.port_line.specs.declared.Numeral.{Numeral}
 use Rattle.port_line.specs.declared.Setup.{Setup}
@@ -66,10 +66,10 @@ module _ (good : Bool) (s : State) where
   frame_given h = given_placed good _ (frame h) s _ refl
 
   -- quiet time passes where no port is described in part
-  pub quiet_given : (n : ℕ) → meaning (given good (quietLine n)) s
+  pub quiet_given : (n : ℕ) → meaning (given good (quiet_line n)) s
       ≡ cond (good && whole u) (answered (outcome (quiet n) s.world) u) (misplaced s)
   unfolding meaning
-  quiet_given n = given_placed good _ (quietLine n) s _ refl
+  quiet_given n = given_placed good _ (quiet_line n) s _ refl
 
   write_given : (a : ℕ) (ws : List ℕ) → meaning (given good (write a ws)) s
       ≡ cond (good && whole u) (hosted (write_port a ws) 4 s) (misplaced s)

@@ -14,7 +14,7 @@ use Rattle.port_line.specs.declared.Numeral.{Numeral}
 use Rattle.port_line.specs.declared.Setup.{Setup}
 use Rattle.port_line.specs.declared.Stepped.{Stepped}
 use Rattle.port_text.specs.Report.{reply_text}
-use Rattle.port_text.specs.Line.{Line, addr, fcode, index, dir, frame, quiet as quietLine, write, malformed}
+use Rattle.port_text.specs.Line.{Line, addr, fcode, index, dir, frame, quiet as quiet_line, write, malformed}
 
 -- ---- the state between two lines
 
@@ -78,7 +78,7 @@ meaning (dir b) s = describes (eqb s.setup.stage 2) (setup 3 s.setup.addr s.setu
 meaning (index n) s =
     cond (eqb s.setup.stage 3) (hosted (open_port s.setup.addr n s.setup.code s.setup.sink 0 0) 0 s) (misplaced s)
 meaning (frame h) s = cond (whole s.setup) (answered (outcome (hear h h) s.world) s.setup) (misplaced s)
-meaning (quietLine n) s = cond (whole s.setup) (answered (outcome (quiet n) s.world) s.setup) (misplaced s)
+meaning (quiet_line n) s = cond (whole s.setup) (answered (outcome (quiet n) s.world) s.setup) (misplaced s)
 meaning (write a ws) s = cond (whole s.setup) (hosted (write_port a ws) 4 s) (misplaced s)
 meaning malformed s = misplaced s
 

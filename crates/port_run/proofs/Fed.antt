@@ -118,13 +118,13 @@ long_refused room l t s none h =
 
 module _ (room : ℕ) where
   -- what is printed of the rest of an input, byte by byte, after these bytes
-  abbrev printedBy : Fed → List ℕ
-  printedBy x = x.said ++ end_said room x.next
+  abbrev printed_by : Fed → List ℕ
+  printed_by x = x.said ++ end_said room x.next
 
   -- a line, and then the rest
   line_printed : (s : State) (l t : List ℕ)
-      → ((s : State) → printed_from room (text_lines t) s ≡ printedBy (fed room (feeding s [] 0) t))
-      → printed_from room (l ∷ text_lines t) s ≡ printedBy (onward room (worked room l s) t)
+      → ((s : State) → printed_from room (text_lines t) s ≡ printed_by (fed room (feeding s [] 0) t))
+      → printed_from room (l ∷ text_lines t) s ≡ printed_by (onward room (worked room l s) t)
   unfolding printed_from worked end_said
   line_printed s l t next = go (meaning (line_in room l) s).refusal refl (eqb (meaning (line_in room l) s).refusal 0) refl
     where
@@ -133,7 +133,7 @@ module _ (room : ℕ) where
 
       go : (n : ℕ) → x.refusal ≡ n → (b : Bool) → eqb n 0 ≡ b
           → x.said ++ cond (eqb n 0) (printed_from room (text_lines t) x.next) (refused_text n)
-          ≡ printedBy (onward room (fed_with (x.said ++ stop_text n) (feeding x.next [] n)) t)
+          ≡ printed_by (onward room (fed_with (x.said ++ stop_text n) (feeding x.next [] n)) t)
       go n k true e =
           let y = fed room (feeding x.next [] 0) t in
           rw (eqb-true n 0 e, append-nil x.said, append_assoc x.said y.said (end_said room y.next))
@@ -150,7 +150,7 @@ module _ (room : ℕ) where
       rw (lines_last c l none, some) (line_printed s (c ∷ l) [] (λ z. refl) ∙ rw (append-nil (worked room (c ∷ l) s).said))
 
   rest_printed : (s : State) (l t : List ℕ) → has newline l ≡ false → length l ≤ room
-      → printed_from room (text_lines (l ++ t)) s ≡ printedBy (fed room (feeding s l 0) t)
+      → printed_from room (text_lines (l ++ t)) s ≡ printed_by (fed room (feeding s l 0) t)
   unfolding fed end_said has
   rest_printed s l [] none h = rw (append-nil l) (last_printed s l none)
   rest_printed s l (c ∷ t) none h =
@@ -160,15 +160,15 @@ module _ (room : ℕ) where
       m = l ++ (c ∷ [])
 
       go : (b : Bool) → eqb c newline ≡ b → (o : Bool) → ltb room (length m) ≡ o
-          → ((z : State) → printed_from room (text_lines t) z ≡ printedBy (fed room (feeding z [] 0) t))
-          → (has newline m ≡ false → length m ≤ room → printed_from room (text_lines (m ++ t)) s ≡ printedBy (fed room (feeding s m 0) t))
+          → ((z : State) → printed_from room (text_lines t) z ≡ printed_by (fed room (feeding z [] 0) t))
+          → (has newline m ≡ false → length m ≤ room → printed_from room (text_lines (m ++ t)) s ≡ printed_by (fed room (feeding s m 0) t))
           → printed_from room (text_lines (l ++ c ∷ t)) s
-          ≡ printedBy (onward room (cond b (worked room l s) (cond o (worked room m s) (fed_with [] (feeding s m 0)))) t)
+          ≡ printed_by (onward room (cond b (worked room l s) (cond o (worked room m s) (fed_with [] (feeding s m 0)))) t)
       go true e o k new next = rw (eqb-true c newline e, lines_on l t none) (line_printed s l t new)
       go false e true k new next =
           let over : room < length m = ltb-true room (length m) k in
           rw (← append_assoc l (c ∷ []) t, long_refused room m t s (lacks_byte l c none e) over)
-          (sym (append-nil (refused_text 7)) ∙ ap printedBy (sym (over_onward room m s t over)))
+          (sym (append-nil (refused_text 7)) ∙ ap printed_by (sym (over_onward room m s t over)))
       go false e false k new next =
           rw (← append_assoc l (c ∷ []) t) (next (lacks_byte l c none e) (ltb-false room (length m) k))
 

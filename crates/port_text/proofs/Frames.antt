@@ -86,18 +86,18 @@ module _ (one : Bool) (b : ℕ) (v ws cs t u : List ℕ) (x y : Listed) (front :
       rw (first, second, w, d)
 
   module _ (kind : Kind) (good apart : Bool) (tested : good ≡ tests apart) (cut_apart : apart ≡ has b v) where
-    good-is : good ≡ is_frame_text one b v
-    good-is = tested ∙ ap tests cut_apart ∙ frame_good
+    good_is : good ≡ is_frame_text one b v
+    good_is = tested ∙ ap tests cut_apart ∙ frame_good
 
     -- where the test of the code holds, its frame is the one that is defined
-    pub read-good : good ≡ true → read_as true (unmarked kind ws x.count (map (cut 255) cs) y.count) ≡ frame_read kind one b v
+    pub read_good : good ≡ true → read_as true (unmarked kind ws x.count (map (cut 255) cs) y.count) ≡ frame_read kind one b v
     unfolding frame_read
-    read-good h = let k = sym good-is ∙ h in rw k (ap (read_as true) (frame_heard kind k))
+    read_good h = let k = sym good_is ∙ h in rw k (ap (read_as true) (frame_heard kind k))
 
     -- where it does not, the line describes none
-    pub read-malformed : good ≡ false → read_as false (hearing_of kind [] []) ≡ frame_read kind one b v
+    pub read_malformed : good ≡ false → read_as false (hearing_of kind [] []) ≡ frame_read kind one b v
     unfolding frame_read
-    read-malformed h = rw (sym good-is ∙ h)
+    read_malformed h = rw (sym good_is ∙ h)
 
 -- ---- the words of a write
 

@@ -20,12 +20,12 @@ use Rattle.frames.specs.declared.Kind.TheVariants.{Master as MasterFrame, Slave 
 use Rattle.model.specs.Event.{world, silent, spoken}
 use Rattle.model.specs.Calls.{Call, hear, quiet, refusal, step, effect, answer, outcome_of, outcome, fresh_over, port_refusal}
 use Rattle.model.specs.Past.{after, Typed, Accepted, happening}
-use Rattle.model.proofs.Demands.{reply-told}
+use Rattle.model.proofs.Demands.{reply_told_lem}
 use Rattle.port_text.specs.declared.Key.{Key}
 use Rattle.port_text.specs.declared.Key.TheVariants.{Addr, Fcode, Dir, Index, Master, Slave, Quiet, Write, Unknown}
 use Rattle.port_text.specs.Words.{w_sink, w_source}
 use Rattle.port_text.specs.Report.{reply_text}
-use Rattle.port_text.specs.Line.{Line, addr, fcode, index, dir, frame, quiet as quietLine, write, malformed, numbered, dir_of, hearing_of}
+use Rattle.port_text.specs.Line.{Line, addr, fcode, index, dir, frame, quiet as quiet_line, write, malformed, numbered, dir_of, hearing_of}
 use Rattle.port_text.specs.Line.{frame_read, first_list, second_list, below, is_frame_text, read_as, framed, kept, written, write_of, line_as, key_of, line_of}
 use Rattle.port_line.specs.declared.Setup.{Setup}
 use Rattle.port_line.specs.Meaning.{State, state, Step, step_with, misplaced, setup, whole, answered, hosted, meaning}
@@ -167,7 +167,7 @@ module _ (u : Setup) (past : List Call) (run : Accepted past) where
   line_does (dir sink) typed = placed (eqb u.stage 2) _ (described (setup 3 u.addr u.code sink))
   line_does (index n) typed = placed (eqb u.stage 3) _ (on_ports _ 0 typed refl refl refl)
   line_does (frame h) typed =
-      placed (whole u) _ (on_bus_lem (hear h h) typed (ap (λ (r : Option (List ℕ)). reply_text (spoken r)) (reply-told past run h h)))
-  line_does (quietLine n) typed = placed (whole u) _ (on_bus_lem (quiet n) typed refl)
+      placed (whole u) _ (on_bus_lem (hear h h) typed (ap (λ (r : Option (List ℕ)). reply_text (spoken r)) (reply_told_lem past run h h)))
+  line_does (quiet_line n) typed = placed (whole u) _ (on_bus_lem (quiet n) typed refl)
   line_does (write a ws) typed = placed (whole u) _ (on_ports _ 4 typed refl refl refl)
   line_does malformed typed = out_of_place past

@@ -26,7 +26,7 @@ use Rattle.model.proofs.Reading.{readable}
 use Rattle.model.proofs.Ages.{faults_told_lem}
 use Rattle.model.proofs.Demands.{never_damaged}
 use Rattle.port_text.specs.Report.{state_text, data_text, text_of_port, open_text, report_below, report, refused_text}
-use Rattle.port_text.specs.Line.{Line, addr, fcode, index, dir, frame, quiet as quietLine, write, malformed}
+use Rattle.port_text.specs.Line.{Line, addr, fcode, index, dir, frame, quiet as quiet_line, write, malformed}
 use Rattle.port_line.specs.declared.Setup.{Setup}
 use Rattle.port_line.specs.Meaning.{fresh_setup, state, whole, Step, meaning}
 use Rattle.port_run.specs.Printed.{text_lines, longest, line_in, end_text, printed_from, printed}
@@ -140,7 +140,7 @@ line_free (index n) u past free = λ a o. go (eqb u.addr a) a o
         sym (ap (λ (x : Opening). x.limit) same)
     go false a o e = free a o e
 line_free (frame h) u past free = free
-line_free (quietLine n) u past free = free
+line_free (quiet_line n) u past free = free
 line_free (write b ws) u past free = λ a o. go (eqb b a) a o
   where
     go : (k : Bool) (a : ℕ) (o : Opening) → leaves (cond k (writes ws) keeps) (opening_of past a) ≡ some o → o.limit ≡ 0

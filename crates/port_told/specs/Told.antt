@@ -11,7 +11,7 @@ use Rattle.model.specs.Past.{after, Opening, opening_of, Happening, hears, passe
 use Rattle.model.specs.StatusBits.{faults_told}
 use Rattle.port_text.specs.Words.{w_state, w_fills, w_blocks, w_data, w_never, w_good, w_held, w_none}
 use Rattle.port_text.specs.Report.{line_text, blocks_text, setup_text, refused_text, reply_text}
-use Rattle.port_text.specs.Line.{Line, addr, fcode, index, dir, frame, quiet as quietLine, write, malformed}
+use Rattle.port_text.specs.Line.{Line, addr, fcode, index, dir, frame, quiet as quiet_line, write, malformed}
 use Rattle.port_line.specs.declared.Setup.{Setup}
 use Rattle.port_line.specs.Meaning.{setup, fresh_setup, whole}
 use Rattle.port_run.specs.Printed.{text_lines, longest, line_in}
@@ -26,7 +26,7 @@ call_in (fcode n) u = none
 call_in (dir sink) u = none
 call_in (index n) u = some (open_port u.addr n u.code u.sink 0 0)
 call_in (frame h) u = some (hear h h)
-call_in (quietLine n) u = some (quiet n)
+call_in (quiet_line n) u = some (quiet n)
 call_in (write a ws) u = some (write_port a ws)
 call_in malformed u = none
 
@@ -42,7 +42,7 @@ in_place (fcode n) u = eqb u.stage 1
 in_place (dir sink) u = eqb u.stage 2
 in_place (index n) u = eqb u.stage 3
 in_place (frame h) u = whole u
-in_place (quietLine n) u = whole u
+in_place (quiet_line n) u = whole u
 in_place (write a ws) u = whole u
 in_place malformed u = false
 
@@ -62,7 +62,7 @@ setup_after (fcode n) u = setup 2 u.addr n u.sink
 setup_after (dir sink) u = setup 3 u.addr u.code sink
 setup_after (index n) u = setup 0 u.addr u.code u.sink
 setup_after (frame h) u = setup 4 u.addr u.code u.sink
-setup_after (quietLine n) u = setup 4 u.addr u.code u.sink
+setup_after (quiet_line n) u = setup 4 u.addr u.code u.sink
 setup_after (write a ws) u = setup 4 u.addr u.code u.sink
 setup_after malformed u = u
 

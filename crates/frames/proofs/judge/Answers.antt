@@ -5,12 +5,12 @@ use lib.Seq.{length-take-le}
 use Rattle.frames.specs.declared.Judgement.TheVariants.{Unsound}
 use Rattle.frames.specs.Hearing.{words_of}
 use native.Mathlib.Omega.{arith}
-use Rattle.frames.proofs.Judged.{wrong_size, wrong_ends, right_counts}
+use Rattle.frames.proofs.Judged.{wrong_size_lem, wrong_ends, right_counts}
 use borrow.Author.Rules.{rules}
 use Rattle.frames.proofs.judge.Goals as goal
 
 pub returns-then-size-n : goal.returns-then-size-n
-returns-then-size-n c = ap Unsound c.no_wrong.ensures ∙ wrong_size _ _ c.if-size-n.true
+returns-then-size-n c = ap Unsound c.no_wrong.ensures ∙ wrong_size_lem _ _ c.if-size-n.true
 
 pub returns-then-h-ends : goal.returns-then-h-ends
 returns-then-h-ends c =

@@ -13,14 +13,14 @@ returns c =
     let stored = c.before.before in
     let tested = stored.before.before.before.before in
     let found = tested.before in
-    let opens : open_sink found.get-port.result ≡ true = sym tested.open-sink.ensures ∙ stored.before.before.before.if1.true in
+    let opens : open_sink found.get-port.result ≡ true = sym tested.open_sink_lem.ensures ∙ stored.before.before.before.if1.true in
     rw (stored.put-age.ensures, stored.before.older.ensures, ← found.get-port.ensures, opens)
 
 returns-2 : tie.Need-returns-2
 unfolding aged_words
 returns-2 c =
     let found = c.before.before in
-    let shut : open_sink found.get-port.result ≡ false = sym c.before.open-sink.ensures ∙ c.if1.false in
+    let shut : open_sink found.get-port.result ≡ false = sym c.before.open_sink_lem.ensures ∙ c.if1.false in
     rw (← found.get-port.ensures, shut, found.get-port.ensures) (sym (with_same _ _))
 
 pub age-sink-spec : {M : Type 1} → statement M
