@@ -1,0 +1,8 @@
+-- `read::longer` goes by whether the number is above the last word. Assumes nothing.
+use Rattle.port_digits.proofs.read.longer.Goals as goal
+
+pub returns-then-over : goal.returns-then-over
+returns-then-over c = rw (← c.digit.ensures, c.if-over.true)
+
+pub returns-else-over : goal.returns-else-over
+returns-else-over c = rw (← c.digit.ensures, c.if-over.false)
