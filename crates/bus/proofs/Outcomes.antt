@@ -23,7 +23,8 @@ use Rattle.model.specs.Quiet.{due_within, pulses}
 use Rattle.model.specs.Calls.{Call, hear, quiet, needed_for, word_of_heard, entry_above, ill_formed, refusal, effect, step, answer, bad_area}
 use Rattle.model.specs.Calls.{Outcome, outcome}
 use Rattle.model.proofs.Refused.{accepted}
-use Rattle.model.proofs.Grown.{grown_by, ticks_grown}
+use Rattle.model.specs.Grown.{grown_by}
+use Rattle.model.proofs.Grown.{ticks_grown}
 use Rattle.model.proofs.Tables.{hear_controller_lem, hear_effect_lem, hear_answer_lem}
 use Rattle.model.proofs.StatusReply.{exchange_unmoved}
 use Rattle.bus_events.specs.Raised.{reply_bits}

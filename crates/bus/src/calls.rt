@@ -3,9 +3,8 @@ ghost use Rattle.std.specs.Prelude.{◌≡◌, []};
 ghost use Rattle.model.specs.Layout.{areas};
 ghost use Rattle.model.specs.Event.{world};
 ghost use Rattle.model.specs.Quiet.{pulse, pulses};
-ghost use Rattle.model.proofs.Grown.{grown_by};
+ghost use Rattle.model.specs.Grown.{grown_by};
 ghost use Rattle.model.specs.Calls.{hear, quiet, outcome};
-ghost use Rattle.areas.specs.Lent.{lent};
 ghost use Rattle.bus.specs.Promise.{as_outcome, after_with, accepted_with};
 
 use crate::Answered;
@@ -88,8 +87,8 @@ pub fn hear(
     a: Hearing,
     b: Hearing,
 ) -> Answered
-    ensures { as_outcome (lent index.entry ports.exit page0.exit page1.exit) result ≡
-        outcome (hear a b) (world c (lent index.entry ports.entry page0.entry page1.entry)) }
+    ensures { as_outcome (areas index.now ports.new page0.new page1.new) result ≡
+        outcome (hear a b) (world c (areas index.now ports.old page0.old page1.old)) }
 {
     let l = c.lines;
     let x = c.exchange;
@@ -119,8 +118,8 @@ fn pulse(
     page1: &[u16],
     c: Controller,
 ) -> Controller
-    ensures { world result (lent index.entry ports.exit page0.entry page1.entry) ≡
-        pulse (world c (lent index.entry ports.entry page0.entry page1.entry)) }
+    ensures { world result (areas index.now ports.new page0.now page1.now) ≡
+        pulse (world c (areas index.now ports.old page0.now page1.now)) }
 {
     let x = c.exchange;
     let t = c.times;
@@ -140,8 +139,8 @@ fn pass(
     c: Controller,
     n: u32,
 ) -> Controller
-    ensures { world result (lent index.entry ports.exit page0.entry page1.entry) ≡
-        pulses n (world c (lent index.entry ports.entry page0.entry page1.entry)) }
+    ensures { world result (areas index.now ports.new page0.now page1.now) ≡
+        pulses n (world c (areas index.now ports.old page0.now page1.now)) }
 {
     let mut d = c;
     let mut left = n;
@@ -167,8 +166,8 @@ fn grow(
     c: Controller,
     n: u32,
 ) -> Controller
-    ensures { world result (lent index.entry ports.exit page0.entry page1.entry) ≡
-        grown_by n (world c (lent index.entry ports.entry page0.entry page1.entry)) }
+    ensures { world result (areas index.now ports.new page0.now page1.now) ≡
+        grown_by n (world c (areas index.now ports.old page0.now page1.now)) }
 {
     let k = phase::ends_within(n, c.phase);
     let none = k == 0;
@@ -188,8 +187,8 @@ pub fn quiet(
     c: Controller,
     n: u32,
 ) -> Answered
-    ensures { as_outcome (lent index.entry ports.exit page0.entry page1.entry) result ≡
-        outcome (quiet n) (world c (lent index.entry ports.entry page0.entry page1.entry)) }
+    ensures { as_outcome (areas index.now ports.new page0.now page1.now) result ≡
+        outcome (quiet n) (world c (areas index.now ports.old page0.now page1.now)) }
 {
     let x = c.exchange;
     let t = c.times;

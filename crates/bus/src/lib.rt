@@ -13,7 +13,7 @@ use frames::Hearing;
 use model::Controller;
 
 // What a call answers: the number of a refusal or 0, the controller afterwards, and the reply as a line hears it, or silence.
-#[derive(Drop)]
+#[derive(Clone, Copy)]
 pub struct Answered {
     pub refusal: u16,
     pub controller: Controller,

@@ -13,7 +13,7 @@ use logic::both;
 use model::Device;
 
 // The master word whose reply time is reached, if one is.
-#[derive(Drop)]
+#[derive(Clone, Copy)]
 pub enum Due {
     No,
     Word(u16),

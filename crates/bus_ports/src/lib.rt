@@ -17,7 +17,7 @@ use frames::Hearing;
 use model::Exchange;
 
 // What a sound master frame is met with: the exchange afterwards, and the reply.
-#[derive(Drop)]
+#[derive(Clone, Copy)]
 pub struct Met {
     pub exchange: Exchange,
     pub reply: Hearing,

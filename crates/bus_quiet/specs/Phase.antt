@@ -2,7 +2,7 @@
 use Rattle.std.specs.Prelude.{ℕ}
 use Rattle.model.specs.declared.Controller.{Controller}
 use Rattle.model.specs.Parts.{with_phase}
-use Rattle.model.proofs.Grown.{phase_after}
+use Rattle.model.specs.Grown.{phase_after}
 
 -- the controller with its phase n bit times further
 abbrev pub phased : ℕ → Controller → Controller

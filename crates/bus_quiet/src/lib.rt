@@ -14,7 +14,7 @@ pub mod quiet;
 pub mod resting;
 
 // Quiet bit times passed at once: how many are left, and the controller after the others.
-#[derive(Drop)]
+#[derive(Clone, Copy)]
 pub struct Passed {
     pub left: u32,
     pub controller: Controller,

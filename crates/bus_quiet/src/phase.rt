@@ -1,6 +1,6 @@
 // Milliseconds (document 02, W-205): how many end within n quiet bit times, and the phase after them, at once.
 ghost use Rattle.std.specs.Prelude.{◌≡◌, ◌+◌};
-ghost use Rattle.model.proofs.Grown.{phase_reached, ends_within, phase_after};
+ghost use Rattle.model.specs.Grown.{phase_reached, ends_within, phase_after};
 ghost use Rattle.bus_quiet.specs.Phase.{phased};
 
 use constants::MILLISECOND;

@@ -11,7 +11,7 @@ use Rattle.model.specs.Event.{world, silent}
 use Rattle.model.specs.Host.{address, status, reply_time, slm, ls, ec_clear, reset, group0, group1}
 use Rattle.model.specs.Calls.{hear, quiet, open_port, close_port, write_port, read_port, setting, port_refusal, fetched, refusal_of}
 use Rattle.model.proofs.Asking.{asks_alone, number_alone}
-use Rattle.areas.specs.Lent.{lent, valid_lent, Lies}
+use Rattle.areas.specs.Lent.{valid_lent, Lies}
 use Rattle.areas.proofs.One.{OnePlace, one_place}
 use Rattle.host_ports.specs.Host.{hands_back}
 use Rattle.host_controller.specs.Groups.{call_of}
@@ -37,16 +37,16 @@ use Rattle.host_controller.proofs.groups.on_group1.Reads as on-group1-reads
 
 -- a call on the bus: index table, port words, page 0 and page 1, the controller, and what was heard on line A and on line B
 pub made_hear : (κs : _) (a : _) (r : _) (e : _) → hear-reads.Learnt κs a r e
-    → Made (world a.1.1.1.1.0 (lent a.0 a.1.0 a.1.1.0 a.1.1.1.0))
+    → Made (world a.1.1.1.1.0 (areas a.0.now a.1.0.now a.1.1.0.now a.1.1.1.0.now))
     (hear a.1.1.1.1.1.0 a.1.1.1.1.1.1.0) r.refusal r.reply
-    (world r.controller (lent a.0 e.1.0 e.1.1.0 e.1.1.1.0))
+    (world r.controller (areas a.0.now e.1.0.now e.1.1.0.now e.1.1.1.0.now))
 made_hear κs a r e p = by_hear p
 
 -- quiet time gives `by_quiet`
 pub made_quiet : (κs : _) (a : _) (r : _) (e : _) → quiet-reads.Learnt κs a r e
-    → Made (world a.1.1.1.1.0 (lent a.0 a.1.0 a.1.1.0 a.1.1.1.0))
+    → Made (world a.1.1.1.1.0 (areas a.0.now a.1.0.now a.1.1.0.now a.1.1.1.0.now))
     (quiet a.1.1.1.1.1.0) r.refusal r.reply
-    (world r.controller (lent a.0 e.1.0 a.1.1.0 a.1.1.1.0))
+    (world r.controller (areas a.0.now e.1.0.now a.1.1.0.now a.1.1.1.0.now))
 made_quiet κs a r e p = by_quiet p
 
 -- the host's calls on ports, beside whatever controller there is
@@ -59,32 +59,32 @@ module _ (c : Controller) where
 
   -- opening gives `by_open`
   pub made_open : (κs : _) (a : _) (r : _) (e : _) → open-reads.Learnt κs a r e
-      → Made (world c (lent a.0 a.1.0 a.1.1.0 a.1.1.1.0))
+      → Made (world c (areas a.0.now a.1.0.now a.1.1.0.now a.1.1.1.0.now))
       (open_port a.1.1.1.1.0 a.1.1.1.1.1.0 a.1.1.1.1.1.1.0 a.1.1.1.1.1.1.1.0 a.1.1.1.1.1.1.1.1.0
       a.1.1.1.1.1.1.1.1.1.0)
-      r silent (world c (lent e.0 e.1.0 a.1.1.0 a.1.1.1.0))
+      r silent (world c (areas e.0.now e.1.0.now a.1.1.0.now a.1.1.1.0.now))
   made_open κs a r e p = by_open p
 
   -- closing gives `by_close`
   pub made_close : (κs : _) (a : _) (r : _) (e : _) → close-reads.Learnt κs a r e
-      → Made (world c (lent a.0 a.1.0 a.1.1.0 a.1.1.1.0)) (close_port a.1.1.1.1.0) r silent
-      (world c (lent e.0 e.1.0 a.1.1.0 a.1.1.1.0))
+      → Made (world c (areas a.0.now a.1.0.now a.1.1.0.now a.1.1.1.0.now)) (close_port a.1.1.1.1.0) r silent
+      (world c (areas e.0.now e.1.0.now a.1.1.0.now a.1.1.1.0.now))
   made_close κs a r e p = by_close p
 
   -- writing gives `by_write`
   pub made_write : (κs : _) (a : _) (r : _) (e : _) → write-reads.Learnt κs a r e
-      → Made (world c (lent a.0 a.1.0 a.1.1.0 a.1.1.1.0)) (write_port a.1.1.1.1.0 a.1.1.1.1.1.0.now) r silent
-      (world c (lent a.0 e.1.0 e.1.1.0 e.1.1.1.0))
+      → Made (world c (areas a.0.now a.1.0.now a.1.1.0.now a.1.1.1.0.now)) (write_port a.1.1.1.1.0 a.1.1.1.1.1.0.now) r silent
+      (world c (areas a.0.now e.1.0.now e.1.1.0.now e.1.1.1.0.now))
   made_write κs a r e p = by_write p
 
 -- fetching hands back the words that `fetched` defines
-pub fetch_promised : (κs : _) (a : _) (r : _) (e : _) → fetch-reads.Learnt κs a r e → r.now ≡ fetched (lent a.0 a.1.0 a.1.1.0 a.1.1.1.0) a.1.1.1.1.0
+pub fetch_promised : (κs : _) (a : _) (r : _) (e : _) → fetch-reads.Learnt κs a r e → r.now ≡ fetched (areas a.0.now a.1.0.now a.1.1.0.now a.1.1.1.0.now) a.1.1.1.1.0
 fetch_promised κs a r e p = p.0
 
 -- where words are handed back, they lie in the valid page, in the port's place
 pub fetch_lies : (κs : _) (a : _) (r : _) (e : _) → fetch-reads.Learnt κs a r e
     → let p = get_or a.0.now a.1.1.1.1.0 0 in
-    hands_back (lent a.0 a.1.0 a.1.1.0 a.1.1.1.0) a.1.1.1.1.0 ≡ true
+    hands_back (areas a.0.now a.1.0.now a.1.1.0.now a.1.1.1.0.now) a.1.1.1.1.0 ≡ true
     → Lies r (valid_lent a.1.1.0 a.1.1.1.0 (flags_of (words_at a.1.0.now p).flags)) p
 fetch_lies κs a r e p = p.1
 
@@ -92,7 +92,7 @@ fetch_lies κs a r e p = p.1
 pub one_fetch : (κs : _) (a : _) (r s : _) (e f : _) → fetch-reads.Learnt κs a r e → fetch-reads.Learnt κs a s f
     → let p = get_or a.0.now a.1.1.1.1.0 0 in
     (r.now ≡ s.now)
-    × (hands_back (lent a.0 a.1.0 a.1.1.0 a.1.1.1.0) a.1.1.1.1.0 ≡ true
+    × (hands_back (areas a.0.now a.1.0.now a.1.1.0.now a.1.1.1.0.now) a.1.1.1.1.0 ≡ true
     → OnePlace r s (valid_lent a.1.1.0 a.1.1.1.0 (flags_of (words_at a.1.0.now p).flags)) p)
 one_fetch κs a r s e f p q =
     let port = get_or a.0.now a.1.1.1.1.0 0 in

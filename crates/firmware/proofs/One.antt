@@ -2,8 +2,7 @@
 -- what they leave in the areas. So a promise that says less is refused here. Assumes nothing.
 use Prim.Native.Nat.{ℕ}
 use mathlib.Core.Path.{◌≡◌, sym, ◌∙◌, ap}
-use Rattle.model.specs.Layout.{Areas}
-use Rattle.areas.specs.Lent.{lent}
+use Rattle.model.specs.Layout.{areas, Areas}
 use Rattle.host_ports.specs.Host.{Out, out}
 use Rattle.bus.specs.One.{One}
 use Rattle.firmware.specs.declared.FlatAnswered.{FlatAnswered}
@@ -45,27 +44,27 @@ one_out p q = (ap (λ (x : Out). x.after) (p ∙ sym q), ap (λ (x : Out). x.num
 
 -- `tolvendrum_hear` leaves the same areas and answers the same.
 pub one_hear : (κs : _) (a : _) (r s : _) (e f : _) → hear-reads.Learnt κs a r e → hear-reads.Learnt κs a s f
-    → (lent a.0 e.1.0 e.1.1.0 e.1.1.1.0 ≡ lent a.0 f.1.0 f.1.1.0 f.1.1.1.0) × (r ≡ s)
+    → (areas a.0.now e.1.0.now e.1.1.0.now e.1.1.1.0.now ≡ areas a.0.now f.1.0.now f.1.1.0.now f.1.1.1.0.now) × (r ≡ s)
 one_hear κs a r s e f p q = one_leaving p q
 
 -- So does `tolvendrum_quiet`.
 pub one_quiet : (κs : _) (a : _) (r s : _) (e f : _) → quiet-reads.Learnt κs a r e → quiet-reads.Learnt κs a s f
-    → (lent a.0 e.1.0 a.1.1.0 a.1.1.1.0 ≡ lent a.0 f.1.0 a.1.1.0 a.1.1.1.0) × (r ≡ s)
+    → (areas a.0.now e.1.0.now a.1.1.0.now a.1.1.1.0.now ≡ areas a.0.now f.1.0.now a.1.1.0.now a.1.1.1.0.now) × (r ≡ s)
 one_quiet κs a r s e f p q = one_leaving p q
 
 -- So does `tolvendrum_open`.
 pub one_open : (κs : _) (a : _) (r s : _) (e f : _) → open-reads.Learnt κs a r e → open-reads.Learnt κs a s f
-    → (lent e.0 e.1.0 a.1.1.0 a.1.1.1.0 ≡ lent f.0 f.1.0 a.1.1.0 a.1.1.1.0) × (r ≡ s)
+    → (areas e.0.now e.1.0.now a.1.1.0.now a.1.1.1.0.now ≡ areas f.0.now f.1.0.now a.1.1.0.now a.1.1.1.0.now) × (r ≡ s)
 one_open κs a r s e f p q = one_out p q
 
 -- So does `tolvendrum_close`.
 pub one_close : (κs : _) (a : _) (r s : _) (e f : _) → close-reads.Learnt κs a r e → close-reads.Learnt κs a s f
-    → (lent e.0 e.1.0 a.1.1.0 a.1.1.1.0 ≡ lent f.0 f.1.0 a.1.1.0 a.1.1.1.0) × (r ≡ s)
+    → (areas e.0.now e.1.0.now a.1.1.0.now a.1.1.1.0.now ≡ areas f.0.now f.1.0.now a.1.1.0.now a.1.1.1.0.now) × (r ≡ s)
 one_close κs a r s e f p q = one_out p q
 
 -- So does `tolvendrum_write`.
 pub one_write : (κs : _) (a : _) (r s : _) (e f : _) → write-reads.Learnt κs a r e → write-reads.Learnt κs a s f
-    → (lent a.0 e.1.0 e.1.1.0 e.1.1.1.0 ≡ lent a.0 f.1.0 f.1.1.0 f.1.1.1.0) × (r ≡ s)
+    → (areas a.0.now e.1.0.now e.1.1.0.now e.1.1.1.0.now ≡ areas a.0.now f.1.0.now f.1.1.0.now f.1.1.1.0.now) × (r ≡ s)
 one_write κs a r s e f p q = one_out p q
 
 -- ---- the others: the check bytes, what is asked and fetched, settings, and the interrupt groups

@@ -1,8 +1,8 @@
 // Bus events and quiet time (document 01, "What one bus event does" and "Quiet time"), and the check bytes of a frame that a host sends.
 ghost use Rattle.std.specs.Prelude.{◌≡◌, ◌&&◌, ◌≤◌};
+ghost use Rattle.model.specs.Layout.{areas};
 ghost use Rattle.model.specs.Event.{silent};
 ghost use Rattle.model.specs.Calls.{hear, quiet};
-ghost use Rattle.areas.specs.Lent.{lent};
 ghost use Rattle.firmware_layout.specs.Controller.{flat, ours};
 ghost use Rattle.firmware_layout.specs.Hearing.{flat_hearing, hearing_of, formed};
 ghost use Rattle.firmware.specs.Promise.{answers, leaves, through, flat_checks};
@@ -50,9 +50,9 @@ pub extern "C" fn tolvendrum_hear(
     a: FlatHearing,
     b: FlatHearing,
 ) -> FlatAnswered
-    ensures { leaves (lent index.entry ports.exit page0.exit page1.exit) result ≡
+    ensures { leaves (areas index.now ports.new page0.new page1.new) result ≡
         through (ours c && formed a && formed b) (hear (hearing_of a) (hearing_of b)) c
-        (lent index.entry ports.entry page0.entry page1.entry) }
+        (areas index.now ports.old page0.old page1.old) }
 {
     let given = both(
         layout::fits(index, ports, page0, page1),
@@ -77,8 +77,8 @@ pub extern "C" fn tolvendrum_quiet(
     c: FlatController,
     n: u32,
 ) -> FlatAnswered
-    ensures { leaves (lent index.entry ports.exit page0.entry page1.entry) result ≡
-        through (ours c) (quiet n) c (lent index.entry ports.entry page0.entry page1.entry) }
+    ensures { leaves (areas index.now ports.new page0.now page1.now) result ≡
+        through (ours c) (quiet n) c (areas index.now ports.old page0.now page1.now) }
 {
     let given = both(layout::fits(index, ports, page0, page1), state::is_ours(c));
     if given {

@@ -21,7 +21,7 @@ use firmware_layout::{FlatController, FlatHearing};
 
 // What a bus event and quiet time answer.
 #[repr(C)]
-#[derive(Drop)]
+#[derive(Clone, Copy)]
 pub struct FlatAnswered {
     pub controller: FlatController,
     pub refusal: u16,
@@ -30,7 +30,7 @@ pub struct FlatAnswered {
 
 // What a setting answers.
 #[repr(C)]
-#[derive(Drop)]
+#[derive(Clone, Copy)]
 pub struct FlatTold {
     pub controller: FlatController,
     pub refusal: u16,
@@ -38,7 +38,7 @@ pub struct FlatTold {
 
 // What a call on an interrupt group answers.
 #[repr(C)]
-#[derive(Drop)]
+#[derive(Clone, Copy)]
 pub struct FlatReading {
     pub controller: FlatController,
     pub refusal: u16,
@@ -47,7 +47,7 @@ pub struct FlatReading {
 
 // A number that was asked for.
 #[repr(C)]
-#[derive(Drop)]
+#[derive(Clone, Copy)]
 pub struct Number {
     pub refusal: u16,
     pub value: u16, // 0 where refused
@@ -55,7 +55,7 @@ pub struct Number {
 
 // The words of a port.
 #[repr(C)]
-#[derive(Drop)]
+#[derive(Clone, Copy)]
 pub struct Fetched {
     pub refusal: u16,
     pub size: u16, // how many words; 0 where refused, or never filled
@@ -64,7 +64,7 @@ pub struct Fetched {
 
 // The check bytes of a frame.
 #[repr(C)]
-#[derive(Drop)]
+#[derive(Clone, Copy)]
 pub struct FlatChecks {
     pub count: u16, // how many; 0 for no words or more than 16
     pub bytes: [u8; 4], // zeros after them

@@ -31,9 +31,9 @@ pub extern "C" fn tolvendrum_open(
     interrupt: u16,
     limit: u16,
 ) -> u16
-    ensures { out (lent index.exit ports.exit page0.entry page1.entry) result ≡
+    ensures { out (areas index.new ports.new page0.now page1.now) result ≡
         open_through (is_bit sink) (open_port a p code (is_set sink) interrupt limit)
-        (lent index.entry ports.entry page0.entry page1.entry) }
+        (areas index.old ports.old page0.now page1.now) }
 {
     let given = both(layout::fits(index, ports, page0, page1), is_bit(sink));
     if given {
@@ -62,8 +62,8 @@ pub extern "C" fn tolvendrum_close(
     page1: &[u16],
     a: u16,
 ) -> u16
-    ensures { out (lent index.exit ports.exit page0.entry page1.entry) result ≡
-        host_call (close_port a) (lent index.entry ports.entry page0.entry page1.entry) }
+    ensures { out (areas index.new ports.new page0.now page1.now) result ≡
+        host_call (close_port a) (areas index.old ports.old page0.now page1.now) }
 {
     let fit = layout::fits(index, ports, page0, page1);
     if fit {
@@ -82,8 +82,8 @@ pub extern "C" fn tolvendrum_write(
     a: u16,
     words: &[u16],
 ) -> u16
-    ensures { out (lent index.entry ports.exit page0.exit page1.exit) result ≡
-        host_call (write_port a words.now) (lent index.entry ports.entry page0.entry page1.entry) }
+    ensures { out (areas index.now ports.new page0.new page1.new) result ≡
+        host_call (write_port a words.now) (areas index.now ports.old page0.old page1.old) }
 {
     let fit = layout::fits(index, ports, page0, page1);
     if fit {

@@ -4,7 +4,7 @@
 use Rattle.std.specs.Prelude.{ℕ, Bool, ◌&&◌, List}
 use Rattle.model.specs.Layout.{Areas, areas}
 use Rattle.model.specs.Host.{Setting, address, status, reply_time, slm, ls, ec_clear}
-use Rattle.areas.specs.Lent.{Slice, ◌&◌, lent}
+use Rattle.areas.specs.Lent.{Slice, ◌&◌}
 use Rattle.host_controller.specs.declared.GroupCall.{GroupCall}
 use Rattle.host_controller.specs.declared.GroupCall.TheVariants.{ReadStatus, ReadVector, WriteStatus, WriteVector, WritePending, WriteMask}
 use Rattle.firmware_layout.specs.declared.FlatController.{FlatController}
@@ -49,13 +49,13 @@ pub data Hears : Areas → FlatController → FlatHearing → FlatHearing → Fl
   hears : (κs : _) (index ports page0 page1 : Slice) {f : FlatController} {x y : FlatHearing} {r : FlatAnswered}
       (index' ports' page0' page1' : Slice) (left : _)
       → hear-reads.Learnt κs (index & ports & page0 & page1 & f & x & y & tt) r (index' & ports' & page0' & page1' & left)
-      → Hears (lent index ports page0 page1) f x y r (lent index ports' page0' page1')
+      → Hears (areas index.now ports.now page0.now page1.now) f x y r (areas index.now ports'.now page0'.now page1'.now)
 
 -- n quiet bit times passed
 pub data Quiets : Areas → FlatController → ℕ → FlatAnswered → Areas → Type 0 where
   quiets : (κs : _) (index ports page0 page1 : Slice) {f : FlatController} {n : ℕ} {r : FlatAnswered} (index' ports' : Slice) (left : _)
       → quiet-reads.Learnt κs (index & ports & page0 & page1 & f & n & tt) r (index' & ports' & left)
-      → Quiets (lent index ports page0 page1) f n r (lent index ports' page0 page1)
+      → Quiets (areas index.now ports.now page0.now page1.now) f n r (areas index.now ports'.now page0.now page1.now)
 
 -- the check bytes of a frame of these words
 pub data Checks : List ℕ → FlatChecks → Type 0 where
@@ -67,19 +67,19 @@ pub data Checks : List ℕ → FlatChecks → Type 0 where
 pub data Opens : Areas → ℕ → ℕ → ℕ → ℕ → ℕ → ℕ → ℕ → Areas → Type 0 where
   opens : (κs : _) (index ports page0 page1 : Slice) {a p code side interrupt limit r : ℕ} (index' ports' : Slice) (left : _)
       → open-reads.Learnt κs (index & ports & page0 & page1 & a & p & code & side & interrupt & limit & tt) r (index' & ports' & left)
-      → Opens (lent index ports page0 page1) a p code side interrupt limit r (lent index' ports' page0 page1)
+      → Opens (areas index.now ports.now page0.now page1.now) a p code side interrupt limit r (areas index'.now ports'.now page0.now page1.now)
 
 -- the port at address a was closed
 pub data Closes : Areas → ℕ → ℕ → Areas → Type 0 where
   closes : (κs : _) (index ports page0 page1 : Slice) {a r : ℕ} (index' ports' : Slice) (left : _)
       → close-reads.Learnt κs (index & ports & page0 & page1 & a & tt) r (index' & ports' & left)
-      → Closes (lent index ports page0 page1) a r (lent index' ports' page0 page1)
+      → Closes (areas index.now ports.now page0.now page1.now) a r (areas index'.now ports'.now page0.now page1.now)
 
 -- these words were written to the source at address a
 pub data Writes : Areas → ℕ → List ℕ → ℕ → Areas → Type 0 where
   writes : (κs : _) (index ports page0 page1 : Slice) {a : ℕ} (words : Slice) {r : ℕ} (index' ports' page0' page1' : Slice) (left : _)
       → write-reads.Learnt κs (index & ports & page0 & page1 & a & words & tt) r (index' & ports' & page0' & page1' & left)
-      → Writes (lent index ports page0 page1) a words.now r (lent index ports' page0' page1')
+      → Writes (areas index.now ports.now page0.now page1.now) a words.now r (areas index.now ports'.now page0'.now page1'.now)
 
 -- the state of the port at address a was asked for, beside whatever pages there are
 pub data Asks : Areas → ℕ → Number → Type 0 where
@@ -89,7 +89,7 @@ pub data Asks : Areas → ℕ → Number → Type 0 where
 -- and its words
 pub data Fetches : Areas → ℕ → Fetched → Type 0 where
   fetches : (κs : _) (index ports page0 page1 : Slice) {a : ℕ} {r : Fetched} (left : _)
-      → fetch-reads.Learnt κs (index & ports & page0 & page1 & a & tt) r left → Fetches (lent index ports page0 page1) a r
+      → fetch-reads.Learnt κs (index & ports & page0 & page1 & a & tt) r left → Fetches (areas index.now ports.now page0.now page1.now) a r
 
 -- ---- setting_calls
 

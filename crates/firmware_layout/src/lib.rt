@@ -14,7 +14,7 @@ pub mod state;
 
 // The exchange on the bus.
 #[repr(C)]
-#[derive(Drop)]
+#[derive(Clone, Copy)]
 pub struct FlatExchange {
     pub stage: u16, // 0 idle, 1 waiting, 2 done
     pub word: u16, // the master word that is waited for, else 0
@@ -22,7 +22,7 @@ pub struct FlatExchange {
 
 // Times, in bit times.
 #[repr(C)]
-#[derive(Drop)]
+#[derive(Clone, Copy)]
 pub struct FlatTimes {
     pub since: u16, // since the last sound master frame or reset, counted up to 1950
     pub line: u16, // the line count, below 2130
@@ -32,7 +32,7 @@ pub struct FlatTimes {
 
 // The two lines, each flag 0 or 1.
 #[repr(C)]
-#[derive(Drop)]
+#[derive(Clone, Copy)]
 pub struct FlatLines {
     pub laa: u16, // line A active: 1 where line A is trusted, 0 where line B is
     pub rld: u16, // redundant line disturbed: set by a failure, cleared by a status poll to us
@@ -42,7 +42,7 @@ pub struct FlatLines {
 
 // Counts of frames.
 #[repr(C)]
-#[derive(Drop)]
+#[derive(Clone, Copy)]
 pub struct FlatCounts {
     pub fc: u16, // judged frames, modulo 65,536
     pub ec: u16, // unsound ones, up to 65,535
@@ -50,7 +50,7 @@ pub struct FlatCounts {
 
 // An interrupt group. Its unused bits are zero, and nothing is pending unless it is frozen.
 #[repr(C)]
-#[derive(Drop)]
+#[derive(Clone, Copy)]
 pub struct FlatGroup {
     pub pending: u16, // bits raised while it is frozen
     pub mask: u16, // 1 lets a bit through
@@ -60,7 +60,7 @@ pub struct FlatGroup {
 
 // Our device on the bus.
 #[repr(C)]
-#[derive(Drop)]
+#[derive(Clone, Copy)]
 pub struct FlatDevice {
     pub address: u16, // the device address, 0 to 4095
     pub set: u16, // 1 once the host has set a status word
@@ -69,7 +69,7 @@ pub struct FlatDevice {
 
 // The controller. No struct in it lies across a multiple of four words, so that a machine that copies the controller moves each whole.
 #[repr(C)]
-#[derive(Drop)]
+#[derive(Clone, Copy)]
 pub struct FlatController {
     pub exchange: FlatExchange,
     pub counts: FlatCounts,
@@ -83,7 +83,7 @@ pub struct FlatController {
 
 // What one line heard in an event. In silence and in noise the rest says nothing, but is tested.
 #[repr(C)]
-#[derive(Drop)]
+#[derive(Clone, Copy)]
 pub struct FlatHearing {
     pub kind: u16, // 0 silence, 1 noise, 2 master frame, 3 slave frame
     pub words: [u16; 16],

@@ -11,14 +11,14 @@ pub mod groups;
 pub mod settings;
 
 // What a setting with a range answers: 0 and the controller after it, or the refusal RANGE and the controller as it was.
-#[derive(Drop)]
+#[derive(Clone, Copy)]
 pub struct Told {
     pub refusal: u16,
     pub controller: Controller,
 }
 
 // The host's calls on an interrupt group.
-#[derive(Drop)]
+#[derive(Clone, Copy)]
 pub enum GroupCall {
     ReadStatus,
     ReadVector,
@@ -29,7 +29,7 @@ pub enum GroupCall {
 }
 
 // What was read, 0 by a write, and the controller afterwards.
-#[derive(Drop)]
+#[derive(Clone, Copy)]
 pub struct Reading {
     pub value: u16,
     pub controller: Controller,

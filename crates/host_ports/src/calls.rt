@@ -53,8 +53,8 @@ pub fn open(
     interrupt: u16,
     limit: u16,
 ) -> u16
-    ensures { out (lent index.exit ports.exit page0.entry page1.entry) result ≡
-        host_call (open_port a p code sink interrupt limit) (lent index.entry ports.entry page0.entry page1.entry) }
+    ensures { out (areas index.new ports.new page0.now page1.now) result ≡
+        host_call (open_port a p code sink interrupt limit) (areas index.old ports.old page0.now page1.now) }
 {
     let no = refusal::of_open(index, ports, page0, page1, a, p, code, interrupt);
     let ok = no == 0;
@@ -68,8 +68,8 @@ pub fn open(
 
 // Closes the port at address a: entry and port words are zeroed, the pages stay.
 pub fn close(index: &mut [u16], ports: &mut [u16], page0: &[u16], page1: &[u16], a: u16) -> u16
-    ensures { out (lent index.exit ports.exit page0.entry page1.entry) result ≡
-        host_call (close_port a) (lent index.entry ports.entry page0.entry page1.entry) }
+    ensures { out (areas index.new ports.new page0.now page1.now) result ≡
+        host_call (close_port a) (areas index.old ports.old page0.now page1.now) }
 {
     let no = refusal::of_close(index, ports, page0, page1, a);
     let ok = no == 0;
@@ -100,8 +100,8 @@ pub fn write(
     a: u16,
     words: &[u16],
 ) -> u16
-    ensures { out (lent index.entry ports.exit page0.exit page1.exit) result ≡
-        host_call (write_port a words.now) (lent index.entry ports.entry page0.entry page1.entry) }
+    ensures { out (areas index.now ports.new page0.new page1.new) result ≡
+        host_call (write_port a words.now) (areas index.now ports.old page0.old page1.old) }
 {
     let no = refusal::of_write(index, ports, page0, page1, a, words);
     let ok = no == 0;

@@ -29,7 +29,8 @@ use Rattle.model.proofs.Shape.{Valid, nothing, filling, marking, opening, closin
 use Rattle.model.proofs.PortWords.{read_with}
 use Rattle.model.proofs.Formed.{room}
 use Rattle.model.proofs.ShapeKept.{at_here}
-use Rattle.model.proofs.Grown.{phase_reached, ends_within, phase_after, aged_if, grown_by, pulse_fits, pulses_fits, ticks_grown}
+use Rattle.model.specs.Grown.{phase_reached, ends_within, phase_after, aged_if, grown_by}
+use Rattle.model.proofs.Grown.{pulse_fits, pulses_fits, ticks_grown}
 use Rattle.model.proofs.Taken.{fills_port, fills_exactly, valid_heard}
 use Rattle.model.proofs.Tables.{effect_of, hear_controller_lem, hear_effect_lem}
 use Rattle.model.proofs.ToldPort.{told_standing}

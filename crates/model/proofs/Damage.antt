@@ -34,7 +34,8 @@ use Rattle.model.proofs.Refused.{accepted, accepts}
 use Rattle.model.proofs.Taken.{valid_heard}
 use Rattle.model.proofs.Holds.{later_valid}
 use Rattle.model.proofs.Ageing.{standing_ages, shape_ages}
-use Rattle.model.proofs.Grown.{grown_by, ticks_grown, grown_ages}
+use Rattle.model.specs.Grown.{grown_by}
+use Rattle.model.proofs.Grown.{ticks_grown, grown_ages}
 use Rattle.model.proofs.Invariant.{one_of, ToldBy, chosen_heard}
 use Rattle.model.proofs.Told.{past_told}
 use Rattle.model.proofs.Alike.{bus_in}

@@ -16,7 +16,8 @@ use Rattle.model.proofs.Shape.{Shape, Valid, nothing, marking, standing_after}
 use Rattle.model.proofs.ShapeKept.{shape_apply, standing_apply}
 use Rattle.model.proofs.Accepted.{sink_at_lem}
 use Rattle.model.proofs.Ageing.{standing_ages, shape_ages}
-use Rattle.model.proofs.Grown.{phase_after, grown_by, ticks_grown, grown_ages}
+use Rattle.model.specs.Grown.{phase_after, grown_by}
+use Rattle.model.proofs.Grown.{ticks_grown, grown_ages}
 use Rattle.model.proofs.Waits.{wait_now, Live, waits_later, live_later}
 
 -- ---- areas and exchange, against what is to be shown and waited for

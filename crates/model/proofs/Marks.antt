@@ -29,7 +29,8 @@ use Rattle.model.proofs.Formed.{lengths, open_flags}
 use Rattle.model.proofs.PortWords.{words_same}
 use Rattle.model.proofs.Standings.{standing_at_lem}
 use Rattle.model.proofs.Accepted.{sink_open_lem}
-use Rattle.model.proofs.Grown.{grown_by, pulses_fits, ticks_grown, grown_ages}
+use Rattle.model.specs.Grown.{grown_by}
+use Rattle.model.proofs.Grown.{pulses_fits, ticks_grown, grown_ages}
 
 -- CRC of an unsound answer is set exactly if a block is marked, and exactly if counts are right and a check byte is wrong.
 pub crc_marks : (n : ℕ) (h : Hearing) (wrong : Wrong) → judged n h ≡ Bad wrong

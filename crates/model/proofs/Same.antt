@@ -31,7 +31,8 @@ use Rattle.model.proofs.Holds.{later_valid}
 use Rattle.model.proofs.Standings.{standing_at_lem, none_entry}
 use Rattle.model.proofs.ShapeKept.{shape_apply, standing_apply}
 use Rattle.model.proofs.Ageing.{standing_ages, shape_ages}
-use Rattle.model.proofs.Grown.{grown_by, ticks_grown, grown_ages}
+use Rattle.model.specs.Grown.{grown_by}
+use Rattle.model.proofs.Grown.{ticks_grown, grown_ages}
 
 -- two areas whose addresses show the same
 pub record Alike (m n : Areas) : Type 0 where

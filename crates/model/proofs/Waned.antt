@@ -37,7 +37,8 @@ use Rattle.model.proofs.Told.{past_told}
 use Rattle.model.proofs.Same.{Alike, same_port}
 use Rattle.model.proofs.Gentle.{gentle_late, gentle_heard}
 use Rattle.model.proofs.Damage.{Unharmed, kept_trans, kept_pulse, kept_grown, kept_hear, kept_stretch, earlier}
-use Rattle.model.proofs.Grown.{grown_by, ticks_grown, grown_ages}
+use Rattle.model.specs.Grown.{grown_by}
+use Rattle.model.proofs.Grown.{ticks_grown, grown_ages}
 use Rattle.model.proofs.Finishes.{port_in, sink_port, missed_port, heard_port, waiting_told}
 
 -- the word that is waited for

@@ -4,6 +4,7 @@ pub mod Lines
 pub mod Parts
 pub mod Event
 pub mod Quiet
+pub mod Grown
 pub mod Host
 pub mod Calls
 pub mod Past

@@ -15,7 +15,7 @@ pub mod read;
 pub mod write;
 
 // What a list of numbers is told by: whether it is one, how many numbers stand in it, and the largest of them or 0.
-#[derive(Drop)]
+#[derive(Clone, Copy)]
 pub struct Listed {
     pub good: bool,
     pub count: usize,
@@ -23,7 +23,7 @@ pub struct Listed {
 }
 
 // A number that stands alone, 65,536 for all above 65,535.
-#[derive(Drop)]
+#[derive(Clone, Copy)]
 pub enum Number {
     Value(u32),
     Malformed,

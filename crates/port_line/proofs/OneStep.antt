@@ -3,8 +3,7 @@
 use Prim.Native.Nat.{ℕ}
 use mathlib.Core.Path.{◌≡◌, sym, ◌∙◌, ap}
 use mathlib.Core.List.{List}
-use Rattle.model.specs.Layout.{Areas}
-use Rattle.areas.specs.Lent.{lent}
+use Rattle.model.specs.Layout.{areas, Areas}
 use Rattle.port_line.specs.declared.Stepped.{Stepped}
 use Rattle.port_line.specs.Meaning.{Ended, ended}
 use Rattle.port_line.proofs.step.step.Reads as step-reads
@@ -19,6 +18,6 @@ one_ended e = (ap left e, ap (λ (x : Ended). x.next.world.areas) e, ap (λ (x :
 
 -- So two results of one line are the same, and leave the same.
 pub one_step : (κs : _) (a : _) (r s : _) (e f : _) → step-reads.Learnt κs a r e → step-reads.Learnt κs a s f
-    → (r ≡ s) × (lent e.0 e.1.0 e.1.1.0 e.1.1.1.0 ≡ lent f.0 f.1.0 f.1.1.0 f.1.1.1.0)
+    → (r ≡ s) × (areas e.0.now e.1.0.now e.1.1.0.now e.1.1.1.0.now ≡ areas f.0.now f.1.0.now f.1.1.0.now f.1.1.1.0.now)
     × (e.1.1.1.1.0.now ≡ f.1.1.1.1.0.now)
 one_step κs a r s e f p q = one_ended (p ∙ sym q)

@@ -1,8 +1,7 @@
 // The calls that lines make, each where it may come; elsewhere the line is refused as a malformed one is.
 ghost use Rattle.std.specs.Prelude.{◌≡◌, List, ℕ};
 ghost use Rattle.port_digits.specs.Write.{paper};
-ghost use Rattle.model.specs.Layout.{Areas};
-ghost use Rattle.areas.specs.Lent.{lent};
+ghost use Rattle.model.specs.Layout.{areas, Areas};
 ghost use Rattle.bus.specs.Promise.{as_outcome};
 ghost use Rattle.port_text.specs.Line.{addr, fcode, dir, index as indexLine, framed, quiet, written};
 ghost use Rattle.port_line.specs.Meaning.{begun, setup, whole, misplaced, describes, answered, number_read, given, worded, meaning};
@@ -134,9 +133,9 @@ pub(crate) fn open(
     n: Numeral,
 ) -> Stepped
     ensures { (o : List ℕ) →
-        ended (lent index.exit ports.exit page0.entry page1.entry) o result ≡
+        ended (areas index.new ports.new page0.now page1.now) o result ≡
         ended_by (paper o s.at)
-        (meaning (worded indexLine n) (state_after (lent index.entry ports.entry page0.entry page1.entry) s)) }
+        (meaning (worded indexLine n) (state_after (areas index.old ports.old page0.now page1.now) s)) }
 {
     let u = s.setup;
     let ok = both(n.good, u.stage == PORT);
@@ -172,10 +171,10 @@ pub(crate) fn write(
     words: &[u16],
 ) -> Stepped
     ensures { (o : List ℕ) →
-        ended (lent index.entry ports.exit page0.exit page1.exit) o result ≡
+        ended (areas index.now ports.new page0.new page1.new) o result ≡
         ended_by (paper o s.at)
         (meaning (written (number_read n) words.now)
-        (state_after (lent index.entry ports.entry page0.entry page1.entry) s)) }
+        (state_after (areas index.now ports.old page0.old page1.old) s)) }
 {
     let u = s.setup;
     let word = both(n.good, n.value <= line::LAST_WORD);
@@ -216,9 +215,9 @@ pub(crate) fn hear(
     s: Stepped,
     f: Frame,
 ) -> Stepped
-    ensures { ended (lent index.entry ports.exit page0.exit page1.exit) out.new result ≡
+    ensures { ended (areas index.now ports.new page0.new page1.new) out.new result ≡
         ended_by (paper out.old s.at)
-        (meaning (framed f) (state_after (lent index.entry ports.entry page0.entry page1.entry) s)) }
+        (meaning (framed f) (state_after (areas index.now ports.old page0.old page1.old) s)) }
 {
     let ok = both(f.good, is_whole(s.setup));
     if ok {
@@ -239,9 +238,9 @@ pub(crate) fn quiet(
     s: Stepped,
     n: Numeral,
 ) -> Stepped
-    ensures { ended (lent index.entry ports.exit page0.entry page1.entry) out.new result ≡
+    ensures { ended (areas index.now ports.new page0.now page1.now) out.new result ≡
         ended_by (paper out.old s.at)
-        (meaning (given n.good (quiet n.value)) (state_after (lent index.entry ports.entry page0.entry page1.entry) s)) }
+        (meaning (given n.good (quiet n.value)) (state_after (areas index.now ports.old page0.now page1.now) s)) }
 {
     let ok = both(n.good, is_whole(s.setup));
     if ok {

@@ -13,7 +13,7 @@ pub mod step;
 use model::Controller;
 
 // The port that is being described: which setup line is due (0 to 3; 4 when events have begun), and what the earlier ones said.
-#[derive(Drop)]
+#[derive(Clone, Copy)]
 pub struct Setup {
     pub stage: u16,
     pub addr: u16,
@@ -22,7 +22,7 @@ pub struct Setup {
 }
 
 // What a line leaves and the next one finds: the number of a refusal or 0, controller and setup, and the place of the next byte of output.
-#[derive(Drop)]
+#[derive(Clone, Copy)]
 pub struct Stepped {
     pub refusal: u16,
     pub controller: Controller,
@@ -31,7 +31,7 @@ pub struct Stepped {
 }
 
 // A number that was read, if it is well formed.
-#[derive(Drop)]
+#[derive(Clone, Copy)]
 pub(crate) struct Numeral {
     pub(crate) good: bool,
     pub(crate) value: u32,

@@ -2,8 +2,7 @@
 ghost use Rattle.std.specs.Prelude.{◌≡◌, List, ℕ};
 ghost use Rattle.port_digits.specs.Read.{cut};
 ghost use Rattle.port_digits.specs.Write.{paper};
-ghost use Rattle.model.specs.Layout.{Areas};
-ghost use Rattle.areas.specs.Lent.{lent};
+ghost use Rattle.model.specs.Layout.{areas, Areas};
 ghost use Rattle.port_text.specs.Line.{dir_of, write_of, line_as, line_of};
 ghost use Rattle.port_line.specs.Meaning.{state_after, number_read, meaning, ended, ended_by};
 
@@ -62,9 +61,9 @@ fn write_line(
     v: &[u8],
 ) -> Stepped
     ensures { (o : List ℕ) →
-        ended (lent index.entry ports.exit page0.exit page1.exit) o result ≡
+        ended (areas index.now ports.new page0.new page1.new) o result ≡
         ended_by (paper o s.at)
-        (meaning (write_of v.now) (state_after (lent index.entry ports.entry page0.entry page1.entry) s)) }
+        (meaning (write_of v.now) (state_after (areas index.now ports.old page0.old page1.old) s)) }
 {
     let mut words = [0u16; 17];
     let l = read::numbers(cut::after(v, b';'), &mut words);
@@ -88,9 +87,9 @@ fn by_key(
     key: Key,
     v: &[u8],
 ) -> Stepped
-    ensures { ended (lent index.exit ports.exit page0.exit page1.exit) out.new result ≡
+    ensures { ended (areas index.new ports.new page0.new page1.new) out.new result ≡
         ended_by (paper out.old s.at)
-        (meaning (line_as key v.now) (state_after (lent index.entry ports.entry page0.entry page1.entry) s)) }
+        (meaning (line_as key v.now) (state_after (areas index.old ports.old page0.old page1.old) s)) }
 {
     let n = numeral(read::number(v));
     match key {
@@ -116,9 +115,9 @@ pub fn step(
     s: Stepped,
     t: &[u8],
 ) -> Stepped
-    ensures { ended (lent index.exit ports.exit page0.exit page1.exit) out.new result ≡
+    ensures { ended (areas index.new ports.new page0.new page1.new) out.new result ≡
         ended_by (paper out.old s.at)
-        (meaning (line_of t.now) (state_after (lent index.entry ports.entry page0.entry page1.entry) s)) }
+        (meaning (line_of t.now) (state_after (areas index.old ports.old page0.old page1.old) s)) }
 {
     let key = line::key_of(cut::before(t, b'='));
     let v = cut::after(t, b'=');

@@ -5,8 +5,7 @@ use mathlib.Core.List.{List}
 use lib.ListN.{length, take}
 use lib.Seq.{length-take-le}
 use Rattle.port_digits.proofs.One.{one_paper}
-use Rattle.model.specs.Layout.{Areas}
-use Rattle.areas.specs.Lent.{lent}
+use Rattle.model.specs.Layout.{areas, Areas}
 use Rattle.port_line.specs.declared.Stepped.{Stepped}
 use Rattle.port_run.specs.declared.Feed.{Feed}
 use Rattle.port_run.specs.Fed.{Left, left}
@@ -47,7 +46,7 @@ one_left {m} {k} l h {o} {q} r s x y i j =
 -- `feed` answers the same record and leaves the same areas, the same part of a line and the same output. What lies behind that part in the
 -- line's buffer is open: no call reads it.
 pub one_feed : (κs : _) (a : _) (r s : _) (e f : _) → feed-reads.Learnt κs a r e → feed-reads.Learnt κs a s f
-    → (r ≡ s) × (lent e.0 e.1.0 e.1.1.0 e.1.1.1.0 ≡ lent f.0 f.1.0 f.1.1.0 f.1.1.1.0)
+    → (r ≡ s) × (areas e.0.now e.1.0.now e.1.1.0.now e.1.1.1.0.now ≡ areas f.0.now f.1.0.now f.1.1.0.now f.1.1.1.0.now)
     × (take r.partial e.1.1.1.1.0.now ≡ take s.partial f.1.1.1.1.0.now)
     × (e.1.1.1.1.1.0.now ≡ f.1.1.1.1.1.0.now)
 one_feed κs a r s e f p q =
@@ -55,7 +54,7 @@ one_feed κs a r s e f p q =
 
 -- So does `close`.
 pub one_close : (κs : _) (a : _) (r s : _) (e f : _) → close-reads.Learnt κs a r e → close-reads.Learnt κs a s f
-    → (r ≡ s) × (lent e.0 e.1.0 e.1.1.0 e.1.1.1.0 ≡ lent f.0 f.1.0 f.1.1.0 f.1.1.1.0)
+    → (r ≡ s) × (areas e.0.now e.1.0.now e.1.1.0.now e.1.1.1.0.now ≡ areas f.0.now f.1.0.now f.1.1.0.now f.1.1.1.0.now)
     × (take r.partial e.1.1.1.1.0.now ≡ take s.partial f.1.1.1.1.0.now)
     × (e.1.1.1.1.1.0.now ≡ f.1.1.1.1.1.0.now)
 one_close κs a r s e f p q =

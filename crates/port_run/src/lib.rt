@@ -15,7 +15,7 @@ use port_line::Stepped;
 
 // How things stand between two pieces: what the last line left, and how many bytes of a line that has not ended lie in its buffer. A refusal
 // stays, and nothing is worked after it.
-#[derive(Drop)]
+#[derive(Clone, Copy)]
 pub struct Feed {
     pub stepped: Stepped,
     pub partial: usize,

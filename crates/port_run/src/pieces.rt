@@ -1,7 +1,7 @@
 // The input, piece by piece.
 ghost use Rattle.std.specs.Prelude.{◌≡◌, List, [], ◌++◌, ℕ, ◌≤◌, length, take};
 ghost use Rattle.port_digits.specs.Write.{paper, onto};
-ghost use Rattle.model.specs.Layout.{Areas};
+ghost use Rattle.model.specs.Layout.{areas, Areas};
 ghost use Rattle.areas.specs.Lent.{lent};
 ghost use Rattle.port_line.specs.Meaning.{state_after};
 ghost use Rattle.port_text.specs.Line.{line_of};
@@ -81,9 +81,9 @@ fn work(
     t: &[u8],
 ) -> Feed
     ensures by_index { (l : List ℕ) →
-        left (lent index.exit ports.exit page0.exit page1.exit) l out.new result ≡
+        left (areas index.new ports.new page0.new page1.new) l out.new result ≡
         left_by (paper out.old s.at)
-        (worked room t.now (state_after (lent index.entry ports.entry page0.entry page1.entry) s)) }
+        (worked room t.now (state_after (areas index.old ports.old page0.old page1.old) s)) }
     ensures partial_value { result.partial ≡ 0 }
 {
     let stepped = step::step(index, ports, page0, page1, out, s, roomy(t, room));
@@ -123,10 +123,10 @@ fn end_line(
 ) -> Feed
     requires partial_in_bounds { f.partial ≤ length line.old }
     requires refusal_value { f.stepped.refusal ≡ 0 }
-    ensures result_after { left (lent index.exit ports.exit page0.exit page1.exit) line.new out.new result ≡
+    ensures result_after { left (areas index.new ports.new page0.new page1.new) line.new out.new result ≡
         left_by (paper out.old f.stepped.at)
         (worked (length line.old) (take f.partial line.old ++ t.now)
-        (state_after (lent index.entry ports.entry page0.entry page1.entry) f.stepped)) }
+        (state_after (areas index.old ports.old page0.old page1.old) f.stepped)) }
     ensures partial_in_bounds_2 { result.partial ≤ length line.old }
 {
     let room = line.len();
@@ -164,10 +164,10 @@ fn part(
     ends: bool,
 ) -> Feed
     requires { f.partial ≤ length line.old }
-    ensures result_after { left (lent index.exit ports.exit page0.exit page1.exit) line.new out.new result ≡
+    ensures result_after { left (areas index.new ports.new page0.new page1.new) line.new out.new result ≡
         left_by (paper out.old f.stepped.at)
         (part_fed (length line.old)
-        (feeding_of (lent index.entry ports.entry page0.entry page1.entry) line.old f) t.now ends) }
+        (feeding_of (areas index.old ports.old page0.old page1.old) line.old f) t.now ends) }
     ensures partial_in_bounds { result.partial ≤ length line.old }
 {
     let ok = f.stepped.refusal == 0;
@@ -191,10 +191,10 @@ pub fn feed(
     f: Feed,
     piece: &[u8],
 ) -> Feed
-    ensures result_after { left (lent index.exit ports.exit page0.exit page1.exit) line.new out.new result ≡
+    ensures result_after { left (areas index.new ports.new page0.new page1.new) line.new out.new result ≡
         left_by (paper out.old f.stepped.at)
         (fed (length line.old)
-        (feeding_of (lent index.entry ports.entry page0.entry page1.entry) line.old f) piece.now) }
+        (feeding_of (areas index.old ports.old page0.old page1.old) line.old f) piece.now) }
     ensures partial_in_bounds { (result.partial ≤ length line.old) × (length line.new ≡ length line.old) }
 {
     let mut g = f;
@@ -230,10 +230,10 @@ pub fn close(
     out: &mut [u8],
     f: Feed,
 ) -> Feed
-    ensures result_after { left (lent index.exit ports.exit page0.exit page1.exit) line.new out.new result ≡
+    ensures result_after { left (areas index.new ports.new page0.new page1.new) line.new out.new result ≡
         left_by (paper out.old f.stepped.at)
         (last_fed (length line.old)
-        (feeding_of (lent index.entry ports.entry page0.entry page1.entry) line.old f)) }
+        (feeding_of (areas index.old ports.old page0.old page1.old) line.old f)) }
     ensures partial_in_bounds { (result.partial ≤ length line.old) × (length line.new ≡ length line.old) }
 {
     let mut g = f;

@@ -13,7 +13,7 @@ pub mod say;
 use frames::Hearing;
 
 // What stands before the `=` of a line.
-#[derive(Drop)]
+#[derive(Clone, Copy)]
 pub enum Key {
     Addr,
     Fcode,
@@ -27,7 +27,7 @@ pub enum Key {
 }
 
 // A frame that a line describes, if the line is well formed.
-#[derive(Drop)]
+#[derive(Clone, Copy)]
 pub struct Frame {
     pub good: bool,
     pub hearing: Hearing,

@@ -12,8 +12,8 @@ use Rattle.port_digits.specs.Read.{cut}
 use Rattle.port_digits.specs.Write.{Paper, paper, onto, last_place}
 use Rattle.port_digits.proofs.Pasting.{written}
 use Rattle.model.specs.Calls.{cleared_areas, start}
-use Rattle.model.specs.Layout.{Areas}
-use Rattle.areas.specs.Lent.{Slice, ◌&◌, lent}
+use Rattle.model.specs.Layout.{areas, Areas}
+use Rattle.areas.specs.Lent.{Slice, ◌&◌}
 use Rattle.port_line.specs.Meaning.{state_after}
 use Rattle.port_run.specs.declared.Feed.{Feed}
 use Rattle.port_run.specs.Printed.{longest, printed}
@@ -66,7 +66,7 @@ pub data Reports : Areas → Feed → List ℕ → Type 0 where
   finishes : (κs : _) (index ports page0 page1 out : Slice) (f : Feed) (r : ℕ) (index' ports' page0' page1' out' : Slice) (left : _)
       → finish-reads.Learnt κs (index & ports & page0 & page1 & out & f & tt) r (index' & ports' & page0' & page1' & out' & left)
       → length out.now < last_place → r ≤ length out'.now
-      → Reports (lent index ports page0 page1) f (take r out'.now)
+      → Reports (areas index.now ports.now page0.now page1.now) f (take r out'.now)
 
 -- the areas, the bytes of the line's buffer and the record before a call; the pieces that are still fed, and what is printed of them and at
 -- the end: after each call the first bytes of the buffer, for all of which it had room; then its first place is the next again
@@ -77,15 +77,15 @@ pub data Prints : Areas → List ℕ → Feed → List (List ℕ) → List ℕ �
       (index' & ports' & page0' & page1' & line' & out' & left)
       → length out.now < last_place → r.stepped.at ≤ length out'.now
       → rewind-reads.Learnt tt (r & tt) g over
-      → Prints (lent index' ports' page0' page1') line'.now g ps w
-      → Prints (lent index ports page0 page1) line.now f (piece.now ∷ ps) (take r.stepped.at out'.now ++ w)
+      → Prints (areas index'.now ports'.now page0'.now page1'.now) line'.now g ps w
+      → Prints (areas index.now ports.now page0.now page1.now) line.now f (piece.now ∷ ps) (take r.stepped.at out'.now ++ w)
   closes : (κs : _) (index ports page0 page1 line out : Slice) (f r : Feed) (index' ports' page0' page1' line' out' : Slice) (left : _)
       (g : Feed) (over : _) (w : List ℕ)
       → close-reads.Learnt κs (index & ports & page0 & page1 & line & out & f & tt) r (index' & ports' & page0' & page1' & line' & out' & left)
       → length out.now < last_place → r.stepped.at ≤ length out'.now
       → rewind-reads.Learnt tt (r & tt) g over
-      → Reports (lent index' ports' page0' page1') g w
-      → Prints (lent index ports page0 page1) line.now f [] (take r.stepped.at out'.now ++ w)
+      → Reports (areas index'.now ports'.now page0'.now page1'.now) g w
+      → Prints (areas index.now ports.now page0.now page1.now) line.now f [] (take r.stepped.at out'.now ++ w)
 
 -- ---- what it prints
 
@@ -103,7 +103,7 @@ module _ {m : Areas} (l : List ℕ) {k : List ℕ} (o : List ℕ) (f r : Feed) (
 -- what is printed last
 report_said : {m : Areas} {f : Feed} {w : List ℕ} → Reports m f w → f.stepped.at ≡ 0 → w ≡ closing f.stepped.refusal (state_after m f.stepped)
 report_said (finishes κs index ports page0 page1 out f r index' ports' page0' page1' out' left p short h) z =
-    let t = closing f.stepped.refusal (state_after (lent index ports page0 page1) f.stepped) in
+    let t = closing f.stepped.refusal (state_after (areas index.now ports.now page0.now page1.now) f.stepped) in
     text_printed out.now t r short (p ∙ ap (λ (n : ℕ). onto (paper out.now n) t) z) h
 
 -- what is printed is what is said of the pieces
@@ -111,14 +111,14 @@ calls_said : {m : Areas} {l : List ℕ} {f : Feed} {ps : List (List ℕ)} {w : L
     → w ≡ pieces_said (length l) (feeding_of m l f) ps
 unfolding pieces_said end_said
 calls_said (feeds κs index ports page0 page1 line out f piece r index' ports' page0' page1' line' out' left g over ps w p short h q rest) z =
-    let x = fed (length line.now) (feeding_of (lent index ports page0 page1) line.now f) piece.now in
+    let x = fed (length line.now) (feeding_of (areas index.now ports.now page0.now page1.now) line.now f) piece.now in
     rw (text_printed out.now x.said r.stepped.at short (fed_written line'.now out.now f r x p.0 z) h)
     (ap (λ (u : List ℕ). x.said ++ u)
     (calls_said rest (ap (λ (y : Feed). y.stepped.at) q)
-    ∙ ap (λ (n : ℕ). pieces_said n (feeding_of (lent index' ports' page0' page1') line'.now g) ps) p.1.1
+    ∙ ap (λ (n : ℕ). pieces_said n (feeding_of (areas index'.now ports'.now page0'.now page1'.now) line'.now g) ps) p.1.1
     ∙ ap (λ (y : Feeding). pieces_said (length line.now) y ps) (fed_next line'.now out.now f r x p.0 z q)))
 calls_said (closes κs index ports page0 page1 line out f r index' ports' page0' page1' line' out' left g over w p short h q rest) z =
-    let x = last_fed (length line.now) (feeding_of (lent index ports page0 page1) line.now f) in
+    let x = last_fed (length line.now) (feeding_of (areas index.now ports.now page0.now page1.now) line.now f) in
     rw (text_printed out.now x.said r.stepped.at short (fed_written line'.now out.now f r x p.0 z) h)
     (ap (λ (u : List ℕ). x.said ++ u)
     (report_said rest (ap (λ (y : Feed). y.stepped.at) q)
@@ -145,28 +145,28 @@ pub feed_roomy : (κs : _) (index ports page0 page1 line out : Slice) (f : Feed)
     (index' ports' page0' page1' line' out' : Slice) (left : _)
     → feed-reads.Learnt κs (index & ports & page0 & page1 & line & out & f & piece & tt) r (index' & ports' & page0' & page1' & line' & out' & left)
     → f.stepped.at ≡ 0 → length out.now < last_place
-    → length (fed (length line.now) (feeding_of (lent index ports page0 page1) line.now f) piece.now).said ≤ length out.now
+    → length (fed (length line.now) (feeding_of (areas index.now ports.now page0.now page1.now) line.now f) piece.now).said ≤ length out.now
     → r.stepped.at ≤ length out'.now
 feed_roomy κs index ports page0 page1 line out f piece r index' ports' page0' page1' line' out' left p z short h =
-    let x = fed (length line.now) (feeding_of (lent index ports page0 page1) line.now f) piece.now in
+    let x = fed (length line.now) (feeding_of (areas index.now ports.now page0.now page1.now) line.now f) piece.now in
     place_within out.now x.said r.stepped.at short (fed_written line'.now out.now f r x p.0 z) h
 
 -- at the end of the input
 pub close_roomy : (κs : _) (index ports page0 page1 line out : Slice) (f r : Feed) (index' ports' page0' page1' line' out' : Slice) (left : _)
     → close-reads.Learnt κs (index & ports & page0 & page1 & line & out & f & tt) r (index' & ports' & page0' & page1' & line' & out' & left)
     → f.stepped.at ≡ 0 → length out.now < last_place
-    → length (last_fed (length line.now) (feeding_of (lent index ports page0 page1) line.now f)).said ≤ length out.now
+    → length (last_fed (length line.now) (feeding_of (areas index.now ports.now page0.now page1.now) line.now f)).said ≤ length out.now
     → r.stepped.at ≤ length out'.now
 close_roomy κs index ports page0 page1 line out f r index' ports' page0' page1' line' out' left p z short h =
-    let x = last_fed (length line.now) (feeding_of (lent index ports page0 page1) line.now f) in
+    let x = last_fed (length line.now) (feeding_of (areas index.now ports.now page0.now page1.now) line.now f) in
     place_within out.now x.said r.stepped.at short (fed_written line'.now out.now f r x p.0 z) h
 
 -- after the report
 pub finish_roomy : (κs : _) (index ports page0 page1 out : Slice) (f : Feed) (r : ℕ) (index' ports' page0' page1' out' : Slice) (left : _)
     → finish-reads.Learnt κs (index & ports & page0 & page1 & out & f & tt) r (index' & ports' & page0' & page1' & out' & left)
     → f.stepped.at ≡ 0 → length out.now < last_place
-    → length (closing f.stepped.refusal (state_after (lent index ports page0 page1) f.stepped)) ≤ length out.now
+    → length (closing f.stepped.refusal (state_after (areas index.now ports.now page0.now page1.now) f.stepped)) ≤ length out.now
     → r ≤ length out'.now
 finish_roomy κs index ports page0 page1 out f r index' ports' page0' page1' out' left p z short h =
-    let t = closing f.stepped.refusal (state_after (lent index ports page0 page1) f.stepped) in
+    let t = closing f.stepped.refusal (state_after (areas index.now ports.now page0.now page1.now) f.stepped) in
     place_within out.now t r short (p ∙ ap (λ (n : ℕ). onto (paper out.now n) t) z) h

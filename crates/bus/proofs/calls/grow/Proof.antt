@@ -1,7 +1,7 @@
 -- `bus::calls::grow`: the phase alone where no millisecond ends, else the ports too. Assumes nothing.
 use borrow.Author.Rules.{rules}
 use Rattle.model.specs.Ports.{aged}
-use Rattle.model.proofs.Grown.{grown_by}
+use Rattle.model.specs.Grown.{grown_by}
 use Rattle.bus.proofs.calls.grow.Statement.{statement}
 use Rattle.bus.proofs.calls.grow.Tie as tie
 

@@ -1,8 +1,8 @@
 -- `bus::calls::hear`: the outcome of an accepted event, or of a refused one. Assumes nothing.
+use Rattle.model.specs.Layout.{areas}
 use mathlib.Core.Path.{◌≡◌, sym}
 use Rattle.model.specs.Event.{world, heard_by}
 use Rattle.model.specs.Calls.{hear, refusal}
-use Rattle.areas.specs.Lent.{lent}
 use Rattle.bus.proofs.Outcomes.{hear_refused, hear_accepted, call_refused}
 use borrow.Author.Rules.{rules}
 use Rattle.bus.proofs.calls.hear.Statement.{statement}
@@ -12,7 +12,7 @@ use Rattle.bus.proofs.calls.hear.Tie as tie
 number : (c : tie.After-event-refusal)
     → let heard = c.before.before.before.before.before.before.before.before.before.before in
     let a = heard.before.before.before.before.before.before.before.args in
-    c.event-refusal.result ≡ refusal (hear a.a a.b) (world a.c (lent a.index a.ports a.page0 a.page1))
+    c.event-refusal.result ≡ refusal (hear a.a a.b) (world a.c (areas a.index.now a.ports.now a.page0.now a.page1.now))
 unfolding heard_by
 number c =
     let fits = c.before.before.before.before in
@@ -28,7 +28,7 @@ number c =
       heard.heard.ensures,
       heard.before.trusted.ensures,
     )
-    (hear_refused (world a.c (lent a.index a.ports a.page0 a.page1)) a.a a.b)
+    (hear_refused (world a.c (areas a.index.now a.ports.now a.page0.now a.page1.now)) a.a a.b)
 
 returns : tie.Need-returns
 unfolding heard_by

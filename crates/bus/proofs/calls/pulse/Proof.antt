@@ -1,8 +1,8 @@
 -- `bus::calls::pulse`: the rules of one bit time, for the sink first and then for the controller, which asks nothing of the areas. Assumes nothing.
+use Rattle.model.specs.Layout.{areas}
 use Rattle.model.specs.Event.{world}
 use Rattle.model.specs.Quiet.{pulse, pulse_effect}
 use Rattle.bus_quiet.proofs.BitTime.{pulse_controller_lem}
-use Rattle.areas.specs.Lent.{lent}
 use Rattle.bus_ports.proofs.Ports.{late_found}
 use borrow.Author.Rules.{rules}
 use Rattle.bus.proofs.calls.pulse.Statement.{statement}
@@ -14,7 +14,7 @@ returns c =
     let missed = c.before.before.before in
     let due = missed.before.before.before.before.before in
     let a = due.before.before.before.before.before.before.before.args in
-    let m = lent a.index a.ports a.page0 a.page1 in
+    let m = areas a.index.now a.ports.now a.page0.now a.page1.now in
     rw (
       c.pulse_controller_lem.ensures,
       missed.miss.ensures,

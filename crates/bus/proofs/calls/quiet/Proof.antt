@@ -1,8 +1,8 @@
 -- `bus::calls::quiet`: the outcome of accepted quiet time, or of a refused call. Assumes nothing.
+use Rattle.model.specs.Layout.{areas}
 use mathlib.Core.Path.{◌≡◌, sym}
 use Rattle.model.specs.Event.{world}
 use Rattle.model.specs.Calls.{quiet, refusal}
-use Rattle.areas.specs.Lent.{lent}
 use Rattle.bus.proofs.Outcomes.{quiet_refused, quiet_accepted, call_refused}
 use borrow.Author.Rules.{rules}
 use Rattle.bus.proofs.calls.quiet.Statement.{statement}
@@ -11,7 +11,7 @@ use Rattle.bus.proofs.calls.quiet.Tie as tie
 -- the number that is computed is the model's
 number : (c : tie.After-event-refusal)
     → let a = c.before.before.before.before.before.before.before.before.before.before.before.args in
-    c.event-refusal.result ≡ refusal (quiet a.n) (world a.c (lent a.index a.ports a.page0 a.page1))
+    c.event-refusal.result ≡ refusal (quiet a.n) (world a.c (areas a.index.now a.ports.now a.page0.now a.page1.now))
 number c =
     let due = c.before.before.before.before.before in
     let a = due.before.before.before.before.before.before.args in
@@ -21,7 +21,7 @@ number c =
       c.before.before.before.sought-due.ensures,
       due.due-within.ensures,
     )
-    (quiet_refused (world a.c (lent a.index a.ports a.page0 a.page1)) a.n)
+    (quiet_refused (world a.c (areas a.index.now a.ports.now a.page0.now a.page1.now)) a.n)
 
 returns : tie.Need-returns
 returns c =

@@ -11,7 +11,7 @@ pub returns-then-source : goal.returns-then-source
 returns-then-source c =
     rw (
       c.answered.ensures,
-      c.valid_words.ensures.0,
+      c.valid_words.ensures.result_value,
       source_known,
       sym c.source_at-source.ensures ∙ c.if-source.true,
       sym c.reply_size.ensures ∙ ap words_said c.in-Words.is,

@@ -1,8 +1,8 @@
 -- `bus_calls::tolvendrum_hear` meets its contract: areas of their lengths and arguments of ours come to the call, anything else is turned
 -- away. Assumes nothing.
+use Rattle.model.specs.Layout.{areas}
 use mathlib.Core.Path.{refl, sym, subst, ◌∙◌}
 use mathlib.Core.Bool.{◌&&◌}
-use Rattle.areas.specs.Lent.{lent}
 use Rattle.model.specs.Event.{world}
 use Rattle.model.specs.Calls.{Outcome, hear}
 use Rattle.firmware_layout.specs.Controller.{ours}
@@ -19,7 +19,7 @@ flat-answered-requires c κs =
     let on-b = called.before.before.before.before in
     let read = on-b.before.before in
     let a = read.before.before.before.before.before.before.before.before.before.before.before.before.args in
-    let m = lent a.index a.ports a.page0 a.page1 in
+    let m = areas a.index.now a.ports.now a.page0.now a.page1.now in
     subst (λ (o : Outcome). Small o.reply) (sym called.hear.ensures)
     (reply_small (hear on-b.before.hearing-of.result on-b.hearing-of2.result) (world read.controller-of.result m))
 
@@ -32,7 +32,7 @@ returns c =
     let a = tested.before.before.before.before.before.before.before.before.before.before.before.args in
     rw c.flat-answered.ensures
     (taken given.before.fits2.result (ours a.c && formed a.a && formed a.b) (hear (hearing_of a.a) (hearing_of a.b)) _ a.c
-    (lent a.index a.ports a.page0 a.page1) _
+    (areas a.index.now a.ports.now a.page0.now a.page1.now) _
     (rw given.with-hearings.ensures at (sym tested.before.both.ensures ∙ tested.if1.true))
     on-b.before.before.controller-of.ensures
     (rw (on-b.before.hearing-of.ensures, on-b.hearing-of2.ensures) at called.hear.ensures))
@@ -44,7 +44,7 @@ returns-2 c =
     let a = tested.before.before.before.before.before.before.before.before.before.before.before.args in
     rw (c.turn-away.ensures, c.before.away_number_lem.ensures)
     (turned given.before.fits2.result (ours a.c && formed a.a && formed a.b) (hear (hearing_of a.a) (hearing_of a.b)) _ a.c
-    (lent a.index a.ports a.page0 a.page1)
+    (areas a.index.now a.ports.now a.page0.now a.page1.now)
     (rw given.with-hearings.ensures at (sym tested.before.both.ensures ∙ tested.if1.false)) given.before.fits2.ensures
     (first_of_three (ours a.c) (formed a.a) (formed a.b)) refl)
 

@@ -1,7 +1,7 @@
 -- `bus_calls::tolvendrum_quiet` meets its contract: areas of their lengths and a controller of ours come to the call, anything else is turned
 -- away. Assumes nothing.
+use Rattle.model.specs.Layout.{areas}
 use mathlib.Core.Path.{refl, sym, subst, ◌∙◌}
-use Rattle.areas.specs.Lent.{lent}
 use Rattle.model.specs.Event.{world}
 use Rattle.model.specs.Calls.{Outcome, quiet}
 use Rattle.firmware_layout.specs.Controller.{ours}
@@ -16,7 +16,7 @@ flat-answered-requires c κs =
     let called = c.before.before in
     let a = called.before.before.before.before.before.before.before.before.before.before.before.before.args in
     subst (λ (o : Outcome). Small o.reply) (sym called.quiet.ensures)
-    (reply_small (quiet a.n) (world called.before.before.controller-of.result (lent a.index a.ports a.page0 a.page1)))
+    (reply_small (quiet a.n) (world called.before.before.controller-of.result (areas a.index.now a.ports.now a.page0.now a.page1.now)))
 
 returns : tie.Need-returns
 returns c =
@@ -25,7 +25,7 @@ returns c =
     let given = tested.before.before in
     let a = tested.before.before.before.before.before.before.before.before.before.args in
     rw c.flat-answered.ensures
-    (taken given.before.fits2.result (ours a.c) (quiet a.n) _ a.c (lent a.index a.ports a.page0 a.page1) _
+    (taken given.before.fits2.result (ours a.c) (quiet a.n) _ a.c (areas a.index.now a.ports.now a.page0.now a.page1.now) _
     (rw given.is_ours.ensures at (sym tested.before.both.ensures ∙ tested.if1.true))
     called.before.before.controller-of.ensures
     called.quiet.ensures)
@@ -36,7 +36,7 @@ returns-2 c =
     let given = tested.before.before in
     let a = tested.before.before.before.before.before.before.before.before.before.args in
     rw (c.turn-away.ensures, c.before.away_number_lem.ensures)
-    (turned given.before.fits2.result (ours a.c) (quiet a.n) _ a.c (lent a.index a.ports a.page0 a.page1)
+    (turned given.before.fits2.result (ours a.c) (quiet a.n) _ a.c (areas a.index.now a.ports.now a.page0.now a.page1.now)
     (rw given.is_ours.ensures at (sym tested.before.both.ensures ∙ tested.if1.false)) given.before.fits2.ensures (λ e. e) refl)
 
 pub tolvendrum-quiet-spec : {M : Type 1} → statement M

@@ -1,6 +1,6 @@
 -- `port_calls::tolvendrum_close` meets its contract: areas of their lengths come to the call, others are refused with 1. Assumes nothing.
+use Rattle.model.specs.Layout.{areas}
 use mathlib.Core.Path.{refl, sym, ◌∙◌}
-use Rattle.areas.specs.Lent.{lent}
 use Rattle.model.specs.Calls.{close_port}
 use Rattle.firmware.proofs.Through.{host_unfit}
 use borrow.Author.Rules.{rules}
@@ -10,7 +10,7 @@ use Rattle.firmware.proofs.port_calls.tolvendrum_close.Tie as tie
 returns-2 : tie.Need-returns-2
 returns-2 c =
     let a = c.before.before.before.before.before.before.before.before.args in
-    host_unfit (close_port a.a) _ (lent a.index a.ports a.page0 a.page1) refl (sym c.before.fits2.ensures ∙ c.if1.false)
+    host_unfit (close_port a.a) _ (areas a.index.now a.ports.now a.page0.now a.page1.now) refl (sym c.before.fits2.ensures ∙ c.if1.false)
 
 pub tolvendrum-close-spec : {M : Type 1} → statement M
 tolvendrum-close-spec =

@@ -3,8 +3,7 @@
 use mathlib.Core.Path.{ap}
 use native.Mathlib.Omega.{arith}
 use lib.ListN.{length}
-use Rattle.areas.specs.Lent.{lent}
-use Rattle.model.specs.Layout.{pages_fit, with_part}
+use Rattle.model.specs.Layout.{areas, pages_fit, with_part}
 use Rattle.model.proofs.Asking.{asks_alone}
 use Rattle.firmware.specs.Promise.{fetching}
 use Rattle.firmware.proofs.Short.{fetched_short}
@@ -16,7 +15,7 @@ cast-t10 : tie.Need-overflow-cast-t10
 cast-t10 c =
     let called = c.before.before.before in
     let a = called.before.before.before.before.before.before.before.before.before.args in
-    omega (arith, fetched_short (lent a.index a.ports a.page0 a.page1) a.a, ap length called.part.ensures)
+    omega (arith, fetched_short (areas a.index.now a.ports.now a.page0.now a.page1.now) a.a, ap length called.part.ensures)
 
 returns : tie.Need-returns
 unfolding fetching with_part pages_fit

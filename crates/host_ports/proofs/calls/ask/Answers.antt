@@ -21,4 +21,4 @@ returns c =
       c.get.ensures,
       c.of_ask-no.ensures,
     ) in
-    (answers, ap refusal_of answers ∙ asked_number m a.a)
+    record { value = answers; number = ap refusal_of answers ∙ asked_number m a.a }

@@ -4,4 +4,4 @@ use Rattle.host_ports.proofs.refusal.of_close.Goals as goal
 
 pub returns : goal.returns
 unfolding reached
-returns c = rw (c.reach.ensures, c.fits2.ensures)
+returns c = rw (c.reach.ensures, c.fits.ensures)

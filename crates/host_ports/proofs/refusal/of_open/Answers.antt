@@ -14,5 +14,5 @@ returns c =
       c.get_port-w.ensures,
       c.get-e.ensures,
       c.open_out-out.ensures,
-      c.fits2.ensures,
+      c.fits-fits.ensures,
     )

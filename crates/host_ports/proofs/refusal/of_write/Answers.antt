@@ -7,7 +7,7 @@ unfolding write_refusal reached
 returns c =
     rw (
       c.reach.ensures,
-      c.fits2.ensures,
+      c.fits-fit.ensures,
       c.pick-side.ensures,
       c.pick-size.ensures,
       c.port_size-n.ensures,

@@ -1,4 +1,5 @@
 -- `cut::same` compares two texts. The loop's invariant: what is left is the same exactly if all is. Assumes nothing.
+use Rattle.std.proofs.lemmas.Bool.{eq-eqb, ne_eqb}
 use Prim.Native.Nat.{◌-◌}
 use mathlib.Core.Path.{refl, sym, ◌∙◌}
 use mathlib.Core.Bool.{true, false}
@@ -17,14 +18,14 @@ pub loop-i-preserved : goal.loop-i-preserved
 loop-i-preserved c =
     let l = c.loop-i in
     let a = c.args in
-    let h = same_on a.t.now a.s.now l.i true (omega arith) (omega arith) c.if-alike.true in
+    let h = same_on a.t.now a.s.now l.i true (omega arith) (omega arith) (eq-eqb _ _ c.if-alike.true) in
     (search rules, search rules, h ∙ l.invariant.2)
 
 pub returns-else-alike : goal.returns-else-alike
 returns-else-alike c =
     let l = c.loop-i in
     let a = c.args in
-    same_on a.t.now a.s.now l.i false (omega arith) (omega arith) c.if-alike.false ∙ l.invariant.2
+    same_on a.t.now a.s.now l.i false (omega arith) (omega arith) (ne_eqb _ _ c.if-alike.false) ∙ l.invariant.2
 
 pub returns : goal.returns
 returns c =

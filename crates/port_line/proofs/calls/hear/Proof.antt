@@ -1,8 +1,8 @@
 -- `calls::hear` is the outcome of its call, where no port is described in part. Assumes nothing.
+use Rattle.model.specs.Layout.{areas}
 use mathlib.Core.Path.{sym, ◌∙◌, ap}
 use Rattle.port_digits.specs.Write.{paper}
 use Rattle.model.specs.Calls.{Outcome}
-use Rattle.areas.specs.Lent.{lent}
 use Rattle.port_line.specs.Meaning.{answered, state_after, ended_by}
 use Rattle.port_line.proofs.Keys.{frame_given}
 use borrow.Author.Rules.{rules}
@@ -16,7 +16,7 @@ returns c =
     let judged = tested.before in
     let a = tested.before.before.before.before.before.before.before.before.args in
     let n = a.f in
-    let s = state_after (lent a.index a.ports a.page0 a.page1) a.s in
+    let s = state_after (areas a.index.now a.ports.now a.page0.now a.page1.now) a.s in
     rw (
       frame_given n.good s n.hearing,
       ← judged.before.is_whole.ensures,
@@ -30,7 +30,7 @@ returns-2 c =
     let judged = c.before.before in
     let a = judged.before.before.before.before.before.before.before.args in
     let n = a.f in
-    let s = state_after (lent a.index a.ports a.page0 a.page1) a.s in
+    let s = state_after (areas a.index.now a.ports.now a.page0.now a.page1.now) a.s in
     rw (
       frame_given n.good s n.hearing,
       ← judged.before.is_whole.ensures,

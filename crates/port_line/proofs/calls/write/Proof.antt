@@ -1,8 +1,8 @@
 -- `calls::write` writes where the address is a word and no port is described in part. Assumes nothing.
+use Rattle.model.specs.Layout.{areas}
 use mathlib.Core.Path.{◌≡◌, sym, ◌∙◌}
 use mathlib.Core.Bool.{◌&&◌}
 use lib.Dec.{leb}
-use Rattle.areas.specs.Lent.{lent}
 use Rattle.port_line.specs.Meaning.{state_after}
 use Rattle.port_line.proofs.Hosting.{hosted_ended}
 use Rattle.port_line.proofs.Keys.{written_given}
@@ -17,7 +17,7 @@ returns c = λ o.
     let judged = tested.before in
     let a = judged.before.before.before.before.before.before.before.before.before.before.args in
     let n = a.n in
-    let s = state_after (lent a.index a.ports a.page0 a.page1) a.s in
+    let s = state_after (areas a.index.now a.ports.now a.page0.now a.page1.now) a.s in
     let word : judged.before.before.both.result ≡ (n.good && leb n.value 65535) = judged.before.before.both.ensures in
     rw (
       written_given n s a.words.now,
@@ -34,7 +34,7 @@ returns-2 c = λ o.
     let judged = c.before.before in
     let a = judged.before.before.before.before.before.before.before.before.before.before.args in
     let n = a.n in
-    let s = state_after (lent a.index a.ports a.page0 a.page1) a.s in
+    let s = state_after (areas a.index.now a.ports.now a.page0.now a.page1.now) a.s in
     let word : judged.before.before.both.result ≡ (n.good && leb n.value 65535) = judged.before.before.both.ensures in
     rw (
       written_given n s a.words.now,

@@ -1,4 +1,5 @@
 -- `pieces::close` ends the line that lacks its newline. Assumes nothing.
+use Rattle.model.specs.Layout.{areas}
 use Prim.Native.Nat.{ℕ}
 use mathlib.Core.Path.{◌≡◌, refl, sym, ◌∙◌, ap}
 use mathlib.Core.Bool.{true, false}
@@ -7,7 +8,6 @@ use native.Mathlib.Omega.{arith}
 use lib.Dec.{eqb}
 use lib.ListN.{length, take, length-take}
 use Rattle.port_digits.specs.Write.{paper, onto}
-use Rattle.areas.specs.Lent.{lent}
 use Rattle.port_line.specs.Meaning.{state_after}
 use Rattle.port_run.specs.Fed.{feeding, part_fed, left_by}
 use Rattle.logic.proofs.Taking.{take_least}
@@ -48,7 +48,7 @@ returns-2 c =
     let cut = tested.before.before in
     let a = (entered cut).args in
     let l = line cut in
-    let s = state_after (lent a.index a.ports a.page0 a.page1) a.f.stepped in
+    let s = state_after (areas a.index.now a.ports.now a.page0.now a.page1.now) a.f.stepped in
     let p = paper a.out.now a.f.stepped.at in
     let some : eqb (length (take (partial cut) l)) 0 ≡ false = rw (counted cut) tested.if1.false in (
       done.part.ensures.0

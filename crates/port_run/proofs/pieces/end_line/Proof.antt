@@ -7,8 +7,7 @@ use borrow.Author.Tests.{eqb-true}
 use lib.ListN.{length, take}
 use lib.Seq.{length-take-le}
 use Rattle.port_digits.specs.Write.{Paper, paper, onto}
-use Rattle.model.specs.Layout.{Areas}
-use Rattle.areas.specs.Lent.{lent}
+use Rattle.model.specs.Layout.{areas, Areas}
 use Rattle.port_line.specs.Meaning.{State, state_after}
 use Rattle.port_run.specs.Fed.{worked, Left, left_by}
 use Rattle.port_run.proofs.Leaving.{waits, refused}
@@ -34,7 +33,7 @@ module _ (put : tie.After-put-part) where
   entered = put.before.before.before.before.before.before.before.before.before.before.before.before
 
   abbrev memory : Areas
-  memory = let a = entered.args in lent a.index a.ports a.page0 a.page1
+  memory = let a = entered.args in areas a.index.now a.ports.now a.page0.now a.page1.now
 
   abbrev state : State
   state = state_after memory entered.args.f.stepped

@@ -7,7 +7,6 @@ use native.Mathlib.Omega.{arith}
 use lib.ListN.{length, drop, drop_of_length-le, length-take}
 use Rattle.port_digits.specs.Write.{paper, onto}
 use Rattle.model.specs.Layout.{areas}
-use Rattle.areas.specs.Lent.{lent}
 use Rattle.port_line.specs.Meaning.{state_after}
 use Rattle.port_run.specs.Fed.{feeding, fed, feeding_of, left_by}
 use Rattle.logic.proofs.Taking.{take_least}
@@ -97,7 +96,7 @@ returns c =
     let a = cut.before.before.before.before.before.before.before.before.args in
     let n = a.f.partial in
     let l₀ = a.line.now in
-    let s = state_after (lent a.index a.ports a.page0 a.page1) a.f.stepped in
+    let s = state_after (areas a.index.now a.ports.now a.page0.now a.page1.now) a.f.stepped in
     let p = paper a.out.now a.f.stepped.at in
     let same = take_least n cut.least.result l₀ cut.least.ensures in (
       rw (drop_of_length-le _ c.loop-test.false) at l.invariant.8

@@ -1,9 +1,0 @@
--- `hearing::kind_of` meets its contract: its parts are what the callees ensure. Assumes nothing.
-use Rattle.firmware_layout.proofs.hearing.kind_of.Statement.{statement}
-use Rattle.firmware_layout.proofs.hearing.kind_of.Tie as tie
-
-returns : tie.Need-returns
-returns c = cc
-
-pub kind-of-spec : {M : Type 1} → statement M
-kind-of-spec = tie.close (tie.spec (λ c κs. tt) (λ c κs. tt) (λ c κs. tt) returns)
