@@ -12,9 +12,9 @@ returns c =
     rw (
       c.least-2.ensures,
       c.least.ensures,
-      (goal.at.returns c).After-before_bus-line.ensures,
-      (goal.at.returns c).After-before_reply-bus.ensures,
-      (goal.at.returns c).After-t-1-reply.ensures,
+      c.before_line.ensures,
+      c.before_bus.ensures,
+      c.before_reply.ensures,
       ← c.acts5-acting.ensures,
       c.if-acting.false,
     )

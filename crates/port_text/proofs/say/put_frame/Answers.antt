@@ -1,0 +1,11 @@
+-- `say::put_frame` writes words and check bytes. Assumes nothing.
+use Rattle.port_digits.proofs.Pasting.{then}
+use Rattle.frames.specs.Hearing.{words_of}
+use Rattle.port_text.proofs.say.put_frame.Goals as goal
+
+pub returns : goal.returns
+unfolding words_of
+returns c =
+    let ws = rw c.front.ensures at c.put_list-b.ensures in
+    let cs = rw (c.front-2.ensures, c.words_of-checks.ensures) at c.put_list-d.ensures in
+    then _ _ _ (then _ _ _ (then _ _ _ (then _ _ _ c.put_key-a.ensures ws) c.put-c.ensures) cs) c.put.ensures
