@@ -1,0 +1,15 @@
+-- `setting_calls::tolvendrum_clear_ec` meets its contract: its parts are what the callees ensure. Assumes nothing.
+use Rattle.firmware.specs.Promise.{set_through}
+use Rattle.host_controller.specs.Settings.{told_for}
+use Rattle.firmware.proofs.setting_calls.tolvendrum_clear_ec.Goals as goal
+
+pub returns : goal.returns
+unfolding set_through told_for
+returns c =
+    rw (
+      c.flat_told.ensures,
+      c.is_ours.ensures,
+      c.made-t.ensures,
+      c.clear_ec.ensures,
+      c.controller_of.ensures,
+    )
