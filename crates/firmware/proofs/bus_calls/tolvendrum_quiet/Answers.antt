@@ -19,7 +19,7 @@ pub returns-then-given : goal.returns-then-given
 returns-then-given c =
     let a = c.args in
     rw c.flat_answered.ensures
-    (taken c.fits2.result (ours a.c) (quiet a.n) _ a.c (areas a.index.now a.ports.now a.page0.now a.page1.now) _
+    (taken c.fits.result (ours a.c) (quiet a.n) _ a.c (areas a.index.now a.ports.now a.page0.now a.page1.now) _
     (rw c.is_ours.ensures at (sym c.both-given.ensures ∙ c.if-given.true))
     c.controller_of-x.ensures
     c.quiet.ensures)
@@ -28,5 +28,5 @@ pub returns : goal.returns
 returns c =
     let a = c.args in
     rw (c.turn_away.ensures, c.away_number.ensures)
-    (turned c.fits2.result (ours a.c) (quiet a.n) _ a.c (areas a.index.now a.ports.now a.page0.now a.page1.now)
-    (rw c.is_ours.ensures at (sym c.both-given.ensures ∙ c.if-given.false)) c.fits2.ensures (λ e. e) refl)
+    (turned c.fits.result (ours a.c) (quiet a.n) _ a.c (areas a.index.now a.ports.now a.page0.now a.page1.now)
+    (rw c.is_ours.ensures at (sym c.both-given.ensures ∙ c.if-given.false)) c.fits.ensures (λ e. e) refl)

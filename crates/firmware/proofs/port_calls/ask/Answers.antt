@@ -6,7 +6,7 @@ use Rattle.firmware.proofs.Through.{asked_unfit}
 use Rattle.firmware.proofs.port_calls.ask.Goals as goal
 
 pub returns-then-fit : goal.returns-then-fit
-returns-then-fit c = c.ask.ensures.0
+returns-then-fit c = c.ask.ensures.value
 
 pub returns : goal.returns
 returns c =

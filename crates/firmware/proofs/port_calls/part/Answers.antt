@@ -5,9 +5,9 @@ use Rattle.firmware.proofs.Through.{fetched_unfit}
 use Rattle.firmware.proofs.port_calls.part.Goals as goal
 
 pub returns-then-fit : goal.returns-then-fit
-returns-then-fit c = c.fetch.ensures.0
+returns-then-fit c = c.fetch.ensures.result_value
 
 pub returns : goal.returns
 returns c =
     let a = c.args in
-    sym (fetched_unfit (areas a.index.now a.ports.now a.page0.now a.page1.now) a.a (sym c.fits2.ensures ∙ c.if-fit.false))
+    sym (fetched_unfit (areas a.index.now a.ports.now a.page0.now a.page1.now) a.a (sym c.fits-fit.ensures ∙ c.if-fit.false))

@@ -8,4 +8,4 @@ use Rattle.firmware.proofs.port_calls.tolvendrum_close.Goals as goal
 pub returns : goal.returns
 returns c =
     let a = c.args in
-    host_unfit (close_port a.a) _ (areas a.index.now a.ports.now a.page0.now a.page1.now) refl (sym c.fits2.ensures ∙ c.if-fit.false)
+    host_unfit (close_port a.a) _ (areas a.index.now a.ports.now a.page0.now a.page1.now) refl (sym c.fits-fit.ensures ∙ c.if-fit.false)

@@ -11,8 +11,8 @@ pub returns-then-given : goal.returns-then-given
 returns-then-given c =
     let a = c.args in
     let call = open_port a.a a.p a.code (is_set a.sink) a.interrupt a.limit in
-    (rw c.is_set.ensures at (goal.at.returns-then-given c).After-open.«open».ensures)
-    ∙ opened c.fits2.result (is_bit a.sink) call (areas a.index.now a.ports.now a.page0.now a.page1.now)
+    (rw c.is_set.ensures at c.open.ensures)
+    ∙ opened c.fits.result (is_bit a.sink) call (areas a.index.now a.ports.now a.page0.now a.page1.now)
     (rw c.is_bit.ensures at (sym c.both-given.ensures ∙ c.if-given.true))
 
 pub returns : goal.returns
@@ -20,5 +20,5 @@ returns c =
     let a = c.args in
     let call = open_port a.a a.p a.code (is_set a.sink) a.interrupt a.limit in
     rw c.away_number.ensures
-    (not_opened c.fits2.result (is_bit a.sink) call _ (areas a.index.now a.ports.now a.page0.now a.page1.now)
-    (rw c.is_bit.ensures at (sym c.both-given.ensures ∙ c.if-given.false)) c.fits2.ensures refl)
+    (not_opened c.fits.result (is_bit a.sink) call _ (areas a.index.now a.ports.now a.page0.now a.page1.now)
+    (rw c.is_bit.ensures at (sym c.both-given.ensures ∙ c.if-given.false)) c.fits.ensures refl)

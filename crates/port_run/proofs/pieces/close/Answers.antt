@@ -1,4 +1,5 @@
 -- `pieces::close` ends the line that lacks its newline. Assumes nothing.
+use Rattle.std.proofs.lemmas.Bool.{eq-eqb, ne_eqb}
 use Rattle.model.specs.Layout.{areas}
 use Prim.Native.Nat.{ℕ}
 use mathlib.Core.Path.{◌≡◌, refl, sym, ◌∙◌, ap}
@@ -12,9 +13,7 @@ use Rattle.port_line.specs.Meaning.{state_after}
 use Rattle.port_run.specs.Fed.{feeding, part_fed, left_by}
 use Rattle.logic.proofs.Taking.{take_least}
 use Rattle.port_run.proofs.Leaving.{last_ended}
-use borrow.Author.Rules.{rules}
-use Rattle.port_run.proofs.pieces.close.Statement.{statement}
-use Rattle.port_run.proofs.pieces.close.Tie as tie
+use Rattle.port_run.proofs.pieces.close.Goals as goal
 
 -- where the number of bytes of a line has been cut to what its buffer holds
 module _ (cut : tie.After-least) where
@@ -35,29 +34,19 @@ module _ (cut : tie.After-least) where
   counted : length (take partial line) ≡ cut.least.result
   counted = length-take partial line ∙ sym cut.least.ensures
 
-returns : tie.Need-returns
+pub returns-then-none : goal.returns-then-none
 unfolding onto
-returns c =
-    let cut = c.before.before in
-    (rw (counted cut, c.if1.true, same cut), (omega (arith, cut.least.ensures), refl))
+returns-then-none c =     (rw (counted (goal.at.returns-then-none c).After-least, (eq-eqb _ _ c.if-none.true), same (goal.at.returns-then-none c).After-least), (omega (arith, c.least.ensures), refl))
 
-returns-2 : tie.Need-returns-2
-returns-2 c =
-    let done = c.before.before.before.before.before.before.before.before.before.before.before.before in
-    let tested = done.before.before.before.before.before.before.before.before in
-    let cut = tested.before.before in
-    let a = (entered cut).args in
-    let l = line cut in
+pub returns : goal.returns
+returns c =
+    let a = (entered (goal.at.returns c).After-struct_known-1).args in
+    let l = line (goal.at.returns c).After-struct_known-1 in
     let s = state_after (areas a.index.now a.ports.now a.page0.now a.page1.now) a.f.stepped in
     let p = paper a.out.now a.f.stepped.at in
-    let some : eqb (length (take (partial cut) l)) 0 ≡ false = rw (counted cut) tested.if1.false in (
-      done.part.ensures.0
-          ∙ ap (λ (k : List ℕ). left_by p (part_fed (length l) (feeding s k a.f.stepped.refusal) [] true)) (same cut)
-          ∙ ap (left_by p) (last_ended (length l) (feeding s (take (partial cut) l) a.f.stepped.refusal) some),
-      (done.part.ensures.1, omega (arith, done.part.auto)),
+    let some : eqb (length (take (partial (goal.at.returns c).After-struct_known-1) l)) 0 ≡ false = rw (counted (goal.at.returns c).After-struct_known-1) (ne_eqb _ _ c.if-none.false) in (
+      c.part.ensures.0
+          ∙ ap (λ (k : List ℕ). left_by p (part_fed (length l) (feeding s k a.f.stepped.refusal) [] true)) (same (goal.at.returns c).After-struct_known-1)
+          ∙ ap (left_by p) (last_ended (length l) (feeding s (take (partial (goal.at.returns c).After-struct_known-1) l) a.f.stepped.refusal) some),
+      (c.part.ensures.1, omega (arith, c.part.auto)),
     )
-
-pub close_spec : {M : Type 1} → statement M
-close_spec =
-    tie.close
-    (tie.spec (λ c κs. search rules) returns (λ c. search rules) (λ c κs. search rules) (λ c. search rules) (λ c. search rules) (λ c. search rules) (λ c. search rules) (λ c. search rules) (λ c. search rules) returns-2)

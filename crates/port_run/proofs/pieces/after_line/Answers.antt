@@ -1,0 +1,12 @@
+-- `pieces::after_line` prints the number of a refusal, if there is one. Assumes nothing.
+use Rattle.std.proofs.lemmas.Bool.{eq-eqb, ne_eqb}
+use mathlib.Core.Path.{refl}
+use Rattle.port_digits.specs.Write.{onto}
+use Rattle.port_run.proofs.pieces.after_line.Goals as goal
+
+pub returns-then-ok : goal.returns-then-ok
+unfolding onto
+returns-then-ok c = (λ m l. rw (eq-eqb _ _ c.if-ok.true), refl)
+
+pub returns : goal.returns
+returns c =     (λ m l. rw ((ne_eqb _ _ c.if-ok.false), ← c.put_refused.ensures), refl)
