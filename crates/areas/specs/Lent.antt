@@ -1,6 +1,6 @@
 -- Document 01, "Memory lent to the calls": the four areas as a call is lent them. Assumes nothing.
 use Rattle.std.specs.Prelude.{ℕ, ◌<◌, ◌+◌, ◌*◌, ◌≡◌, Bool, true, false, cond, List, length}
-use Rattle.std.specs.Borrow.{Bor}
+use Rattle.std.specs.Borrow.{Bor, MutBor}
 use Rattle.model.specs.declared.Answer.{Answer}
 use Rattle.model.specs.declared.Answer.TheVariants.{Never, Good, Held, Stale, Refused}
 use Rattle.model.specs.declared.Flags.{Flags}
@@ -9,6 +9,10 @@ use Rattle.model.specs.Layout.{Areas, areas, page_place}
 -- an area, words or bytes, as a call is lent them
 abbrev pub Slice : Type 0
 Slice = Bor (List ℕ)
+
+-- and as a call that may change it is lent it
+abbrev pub MutSlice : Type 0
+MutSlice = MutBor (List ℕ)
 
 -- the arguments of a call in their order, `tt` after the last
 infixr 40 ◌&◌

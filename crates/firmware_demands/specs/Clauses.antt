@@ -4,7 +4,7 @@
 use Rattle.std.specs.Prelude.{ℕ, Bool, ◌&&◌, List}
 use Rattle.model.specs.Layout.{Areas, areas}
 use Rattle.model.specs.Host.{Setting, address, status, reply_time, slm, ls, ec_clear}
-use Rattle.areas.specs.Lent.{Slice, ◌&◌}
+use Rattle.areas.specs.Lent.{Slice, MutSlice, ◌&◌}
 use Rattle.host_controller.specs.declared.GroupCall.{GroupCall}
 use Rattle.host_controller.specs.declared.GroupCall.TheVariants.{ReadStatus, ReadVector, WriteStatus, WriteVector, WritePending, WriteMask}
 use Rattle.firmware_layout.specs.declared.FlatController.{FlatController}
@@ -46,14 +46,15 @@ use Rattle.firmware.proofs.group_calls.tolvendrum_ec.Reads as ec-reads
 
 -- over the areas m and the controller f lines A and B heard x and y; the areas m' are left
 pub data Hears : Areas → FlatController → FlatHearing → FlatHearing → FlatAnswered → Areas → Type 0 where
-  hears : (κs : _) (index ports page0 page1 : Slice) {f : FlatController} {x y : FlatHearing} {r : FlatAnswered}
-      (index' ports' page0' page1' : Slice) (left : _)
+  hears : (κs : _) (index : Slice) (ports page0 page1 : MutSlice) {f : FlatController} {x y : FlatHearing} {r : FlatAnswered}
+      (index' : Slice) (ports' page0' page1' : MutSlice) (left : _)
       → hear-reads.Learnt κs (index & ports & page0 & page1 & f & x & y & tt) r (index' & ports' & page0' & page1' & left)
       → Hears (areas index.now ports.now page0.now page1.now) f x y r (areas index.now ports'.now page0'.now page1'.now)
 
 -- n quiet bit times passed
 pub data Quiets : Areas → FlatController → ℕ → FlatAnswered → Areas → Type 0 where
-  quiets : (κs : _) (index ports page0 page1 : Slice) {f : FlatController} {n : ℕ} {r : FlatAnswered} (index' ports' : Slice) (left : _)
+  quiets : (κs : _) (index : Slice) (ports : MutSlice) (page0 page1 : Slice) {f : FlatController} {n : ℕ} {r : FlatAnswered}
+      (index' : Slice) (ports' : MutSlice) (left : _)
       → quiet-reads.Learnt κs (index & ports & page0 & page1 & f & n & tt) r (index' & ports' & left)
       → Quiets (areas index.now ports.now page0.now page1.now) f n r (areas index.now ports'.now page0.now page1.now)
 
@@ -65,19 +66,20 @@ pub data Checks : List ℕ → FlatChecks → Type 0 where
 
 -- port p was opened at address a, with this F-code, side, interrupt and limit; the number r was answered
 pub data Opens : Areas → ℕ → ℕ → ℕ → ℕ → ℕ → ℕ → ℕ → Areas → Type 0 where
-  opens : (κs : _) (index ports page0 page1 : Slice) {a p code side interrupt limit r : ℕ} (index' ports' : Slice) (left : _)
+  opens : (κs : _) (index ports : MutSlice) (page0 page1 : Slice) {a p code side interrupt limit r : ℕ} (index' ports' : MutSlice) (left : _)
       → open-reads.Learnt κs (index & ports & page0 & page1 & a & p & code & side & interrupt & limit & tt) r (index' & ports' & left)
       → Opens (areas index.now ports.now page0.now page1.now) a p code side interrupt limit r (areas index'.now ports'.now page0.now page1.now)
 
 -- the port at address a was closed
 pub data Closes : Areas → ℕ → ℕ → Areas → Type 0 where
-  closes : (κs : _) (index ports page0 page1 : Slice) {a r : ℕ} (index' ports' : Slice) (left : _)
+  closes : (κs : _) (index ports : MutSlice) (page0 page1 : Slice) {a r : ℕ} (index' ports' : MutSlice) (left : _)
       → close-reads.Learnt κs (index & ports & page0 & page1 & a & tt) r (index' & ports' & left)
       → Closes (areas index.now ports.now page0.now page1.now) a r (areas index'.now ports'.now page0.now page1.now)
 
 -- these words were written to the source at address a
 pub data Writes : Areas → ℕ → List ℕ → ℕ → Areas → Type 0 where
-  writes : (κs : _) (index ports page0 page1 : Slice) {a : ℕ} (words : Slice) {r : ℕ} (index' ports' page0' page1' : Slice) (left : _)
+  writes : (κs : _) (index : Slice) (ports page0 page1 : MutSlice) {a : ℕ} (words : Slice) {r : ℕ} (index' : Slice)
+      (ports' page0' page1' : MutSlice) (left : _)
       → write-reads.Learnt κs (index & ports & page0 & page1 & a & words & tt) r (index' & ports' & page0' & page1' & left)
       → Writes (areas index.now ports.now page0.now page1.now) a words.now r (areas index.now ports'.now page0'.now page1'.now)
 

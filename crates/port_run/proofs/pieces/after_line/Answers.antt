@@ -6,7 +6,7 @@ use Rattle.port_run.proofs.pieces.after_line.Goals as goal
 
 pub returns-then-ok : goal.returns-then-ok
 unfolding onto
-returns-then-ok c = (λ m l. rw (eq-eqb _ _ c.if-ok.true), refl)
+returns-then-ok c = record { result_after = λ m l. rw (eq-eqb _ _ c.if-ok.true); partial_value = refl }
 
 pub returns : goal.returns
-returns c =     (λ m l. rw ((ne_eqb _ _ c.if-ok.false), ← c.put_refused.ensures), refl)
+returns c = record { result_after = λ m l. rw (ne_eqb _ _ c.if-ok.false, ← c.put_refused.ensures); partial_value = refl }

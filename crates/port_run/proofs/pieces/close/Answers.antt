@@ -14,17 +14,15 @@ use Rattle.port_run.specs.Fed.{feeding, part_fed, left_by}
 use Rattle.logic.proofs.Taking.{take_least}
 use Rattle.port_run.proofs.Leaving.{last_ended}
 use Rattle.port_run.proofs.pieces.close.Goals as goal
+use Rattle.port_run.proofs.pieces.close.Goals.{After-least}
 
 -- where the number of bytes of a line has been cut to what its buffer holds
-module _ (cut : tie.After-least) where
-  abbrev entered : tie.Start
-  entered = cut.before.before.before.before.before.before.before
-
+module _ (cut : After-least) where
   abbrev partial : ℕ
-  partial = entered.args.f.partial
+  partial = cut.args.f.partial
 
   abbrev line : List ℕ
-  line = entered.args.line.now
+  line = cut.args.line.now
 
   -- the bytes of the line are the same
   same : take cut.least.result line ≡ take partial line
@@ -36,17 +34,24 @@ module _ (cut : tie.After-least) where
 
 pub returns-then-none : goal.returns-then-none
 unfolding onto
-returns-then-none c =     (rw (counted (goal.at.returns-then-none c).After-least, (eq-eqb _ _ c.if-none.true), same (goal.at.returns-then-none c).After-least), (omega (arith, c.least.ensures), refl))
+returns-then-none c =
+    let cut = (goal.at.returns-then-none c).After-least in
+    record {
+      result_after = rw (counted cut, eq-eqb _ _ c.if-none.true, same cut);
+      partial_in_bounds = (omega (arith, c.least.ensures), refl);
+    }
 
 pub returns : goal.returns
 returns c =
-    let a = (entered (goal.at.returns c).After-struct_known-1).args in
-    let l = line (goal.at.returns c).After-struct_known-1 in
+    let cut = (goal.at.returns c).After-least in
+    let a = c.args in
+    let l = line cut in
     let s = state_after (areas a.index.now a.ports.now a.page0.now a.page1.now) a.f.stepped in
     let p = paper a.out.now a.f.stepped.at in
-    let some : eqb (length (take (partial (goal.at.returns c).After-struct_known-1) l)) 0 ≡ false = rw (counted (goal.at.returns c).After-struct_known-1) (ne_eqb _ _ c.if-none.false) in (
-      c.part.ensures.0
-          ∙ ap (λ (k : List ℕ). left_by p (part_fed (length l) (feeding s k a.f.stepped.refusal) [] true)) (same (goal.at.returns c).After-struct_known-1)
-          ∙ ap (left_by p) (last_ended (length l) (feeding s (take (partial (goal.at.returns c).After-struct_known-1) l) a.f.stepped.refusal) some),
-      (c.part.ensures.1, omega (arith, c.part.auto)),
-    )
+    let some : eqb (length (take (partial cut) l)) 0 ≡ false = rw (counted cut) (ne_eqb _ _ c.if-none.false) in
+    record {
+      result_after = c.part.ensures.result_after
+          ∙ ap (λ (k : List ℕ). left_by p (part_fed (length l) (feeding s k a.f.stepped.refusal) [] true)) (same cut)
+          ∙ ap (left_by p) (last_ended (length l) (feeding s (take (partial cut) l) a.f.stepped.refusal) some);
+      partial_in_bounds = (c.part.ensures.partial_in_bounds, omega (arith, c.part.auto));
+    }

@@ -13,44 +13,48 @@ use Rattle.port_line.specs.Meaning.{State, state_after}
 use Rattle.port_run.specs.Fed.{worked, Left, left_by}
 use Rattle.port_run.proofs.Leaving.{waits, refused}
 use Rattle.port_run.proofs.pieces.end_line.Goals as goal
+use Rattle.port_run.proofs.pieces.end_line.Goals.{After-put_part-g}
 
 -- where the bytes have been put behind those of the line that came before
-module _ (put : tie.After-put-part) where
-  abbrev entered : tie.Start
-  entered = put.before.before.before.before.before.before.before.before.before.before.before.before
-
+module _ (put : After-put_part-g) where
   abbrev memory : Areas
-  memory = let a = entered.args in areas a.index.now a.ports.now a.page0.now a.page1.now
+  memory = let a = put.args in areas a.index.now a.ports.now a.page0.now a.page1.now
 
   abbrev state : State
-  state = state_after memory entered.args.f.stepped
+  state = state_after memory put.args.f.stepped
 
   abbrev output : Paper
-  output = paper entered.args.out.now entered.args.f.stepped.at
+  output = paper put.args.out.now put.args.f.stepped.at
 
   abbrev room : ℕ
-  room = length entered.args.line.now
+  room = length put.args.line.now
 
   abbrev whole : List ℕ
-  whole = take entered.args.f.partial entered.args.line.now ++ entered.args.t.now
+  whole = take put.args.f.partial put.args.line.now ++ put.args.t.now
 
 pub returns-then-whole : goal.returns-then-whole
 returns-then-whole c =
-    let n = c.args.f.partial in
-    (rw (eqb-true n 0 (eq-eqb _ _ c.if-whole.true)) (c.work.ensures.0 _), omega (arith, c.work.ensures.1))
+    record { result_after = rw c.if-whole.true (c.work.ensures.by_index _); partial_in_bounds_2 = omega (arith, c.work.ensures.partial_value) }
 
 pub slice_bounds-work-end-then-ok : goal.slice_bounds-work-end-then-ok
 slice_bounds-work-end-then-ok c =
     let put = c.put_part-g in
-    sym (length-take-le _ _ (omega (arith, put.ensures.1, put.auto)))
+    sym (length-take-le _ _ (omega (arith, put.ensures.partial_in_bounds_2, put.auto)))
 
 pub returns-then-ok : goal.returns-then-ok
 unfolding onto
 returns-then-ok c =
-    let waiting = waits (room (goal.at.returns-then-ok c).After-put_part-g) (whole (goal.at.returns-then-ok c).After-put_part-g) (state (goal.at.returns-then-ok c).After-put_part-g) (output (goal.at.returns-then-ok c).After-put_part-g) (c.put_part-g.ensures.0 (memory (goal.at.returns-then-ok c).After-put_part-g)) (eq-eqb _ _ c.if-ok.true) in (
-      c.work-then-ok.ensures.0 _ ∙ ap (λ (x : Left). left_by x.out (worked (room (goal.at.returns-then-ok c).After-put_part-g) x.next.line x.next.state)) waiting,
-      omega (arith, c.work-then-ok.ensures.1),
-    )
+    let put = (goal.at.returns-then-ok c).After-put_part-g in
+    let waiting = waits (room put) (whole put) (state put) (output put) (c.put_part-g.ensures.result_after (memory put)) (eq-eqb _ _ c.if-ok.true) in
+    record {
+      result_after = c.work-then-ok.ensures.by_index _ ∙ ap (λ (x : Left). left_by x.out (worked (room put) x.next.line x.next.state)) waiting;
+      partial_in_bounds_2 = omega (arith, c.work-then-ok.ensures.partial_value);
+    }
 
 pub returns : goal.returns
-returns c =     (refused (room (goal.at.returns c).After-put_part-g) (whole (goal.at.returns c).After-put_part-g) (state (goal.at.returns c).After-put_part-g) (output (goal.at.returns c).After-put_part-g) (c.put_part-g.ensures.0 (memory (goal.at.returns c).After-put_part-g)) (ne_eqb _ _ c.if-ok.false), c.put_part-g.ensures.1)
+returns c =
+    let put = (goal.at.returns c).After-put_part-g in
+    record {
+      result_after = refused (room put) (whole put) (state put) (output put) (c.put_part-g.ensures.result_after (memory put)) (ne_eqb _ _ c.if-ok.false);
+      partial_in_bounds_2 = c.put_part-g.ensures.partial_in_bounds_2;
+    }

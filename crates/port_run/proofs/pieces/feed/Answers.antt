@@ -19,7 +19,7 @@ loop-i-init c = (omega arith, refl, refl, refl, refl, refl, refl, omega (arith, 
 pub overflow_add-end : goal.overflow_add-end
 overflow_add-end c =
     let t = c.args.piece.now in
-    omega (arith, c.well-formed.1.1.1.1.1.1.1.0, part_within t c.loop-i.i c.find-n.result c.loop-i-test.true c.find-n.ensures)
+    omega (arith, c.well_formed.1.1.1.1.1.1.1.0, part_within t c.loop-i.i c.find-n.result c.loop-i-test.true c.find-n.ensures)
 
 pub slice_bounds-part-count : goal.slice_bounds-part-count
 slice_bounds-part-count c = omega arith
@@ -27,7 +27,7 @@ slice_bounds-part-count c = omega arith
 pub slice_bounds-part-end : goal.slice_bounds-part-end
 slice_bounds-part-end c =
     let t = c.args.piece.now in
-    omega (arith, c.well-formed.1.1.1.1.1.1.1.0, part_within t c.loop-i.i c.find-n.result c.loop-i-test.true c.find-n.ensures)
+    omega (arith, c.well_formed.1.1.1.1.1.1.1.0, part_within t c.loop-i.i c.find-n.result c.loop-i-test.true c.find-n.ensures)
 
 pub part-g-requires : goal.part-g-requires
 part-g-requires c =
@@ -37,7 +37,7 @@ part-g-requires c =
 pub overflow_add-i : goal.overflow_add-i
 overflow_add-i c =
     let t = c.args.piece.now in
-    omega (arith, c.well-formed.1.1.1.1.1.1.1.0, part_within t c.loop-i.i c.find-n.result c.loop-i-test.true c.find-n.ensures)
+    omega (arith, c.well_formed.1.1.1.1.1.1.1.0, part_within t c.loop-i.i c.find-n.result c.loop-i-test.true c.find-n.ensures)
 
 pub loop-i-smaller : goal.loop-i-smaller
 loop-i-smaller c =     omega (arith, c.loop-i-test.true)
@@ -57,9 +57,9 @@ loop-i-preserved c =
       omega (arith, c.part-g.auto, l.invariant.4),
       omega (arith, c.part-g.auto, l.invariant.5),
       omega (arith, c.part-g.auto, l.invariant.6),
-      omega (arith, c.part-g.ensures.1, l.invariant.5),
+      omega (arith, c.part-g.ensures.partial_in_bounds, l.invariant.5),
       part_on t l.i c.find-n.result c.loop-i-test.true c.find-n.ensures room f (paper l.out l.g.stepped.at) short
-          (rw l.invariant.5 at c.part-g.ensures.0)
+          (rw l.invariant.5 at c.part-g.ensures.result_after)
           ∙ l.invariant.8,
     )
 
@@ -72,8 +72,9 @@ returns c =
     let l₀ = a.line.now in
     let s = state_after (areas a.index.now a.ports.now a.page0.now a.page1.now) a.f.stepped in
     let p = paper a.out.now a.f.stepped.at in
-    let same = take_least n c.least.result l₀ c.least.ensures in (
-      rw (drop_of_length-le _ c.loop-i-test.false) at l.invariant.8
-          ∙ ap (λ (k : List ℕ). left_by p (fed (length l₀) (feeding s k a.f.stepped.refusal) a.piece.now)) same,
-      (l.invariant.7, l.invariant.5),
-    )
+    let same = take_least n c.least.result l₀ c.least.ensures in
+    record {
+      result_after = rw (drop_of_length-le _ c.loop-i-test.false) at l.invariant.8
+          ∙ ap (λ (k : List ℕ). left_by p (fed (length l₀) (feeding s k a.f.stepped.refusal) a.piece.now)) same;
+      partial_in_bounds = (l.invariant.7, l.invariant.5);
+    }

@@ -18,13 +18,14 @@ returns-then-fits c =
     let t = c.args.t.now in
     let n = c.args.f.partial in
     let short : length l ≤ last_place = omega arith in
-    let room : n + length t ≤ length l = omega (arith, leb-true (length t) (length l - n) (le-leb _ _ c.if-fits.true), c.requires.0) in
+    let room : n + length t ≤ length l = omega (arith, leb-true (length t) (length l - n) (le-leb _ _ c.if-fits.true), c.requires.partial_in_bounds) in
     let whole = length-append (take n l) t in
-    let part = length-take-le n l c.requires.0 in
-    let fits : length (take n l ++ t) ≤ length l = omega (arith, whole, part, room) in (
-      λ m. rw (le-ltb (length l) (length (take n l ++ t)) fits, put_behind l t n _ short room c.put_text.ensures, c.requires.1),
-      omega (arith, put_length l t n _ short room c.put_text.ensures, room),
-    )
+    let part = length-take-le n l c.requires.partial_in_bounds in
+    let fits : length (take n l ++ t) ≤ length l = omega (arith, whole, part, room) in
+    record {
+      result_after = λ m. rw (le-ltb (length l) (length (take n l ++ t)) fits, put_behind l t n _ short room c.put_text.ensures, c.requires.refusal_value);
+      partial_in_bounds_2 = omega (arith, put_length l t n _ short room c.put_text.ensures, room);
+    }
 
 pub returns : goal.returns
 returns c =
@@ -33,9 +34,10 @@ returns c =
     let t = c.args.t.now in
     let n = c.args.f.partial in
     let whole = length-append (take n l) t in
-    let part = length-take-le n l c.requires.0 in
-    let over : length l < length (take n l ++ t) = omega (arith, whole, part, leb-false (length t) (length l - n) (lt-leb _ _ c.if-fits.false), c.requires.0) in (
-      λ m. rw (lt-ltb (length l) (length (take n l ++ t)) over)
-          (after.0 m _ ∙ over_worked (length l) (take n l ++ t) _ _ over (c.misplace.ensures m _)),
-      omega (arith, after.1),
-    )
+    let part = length-take-le n l c.requires.partial_in_bounds in
+    let over : length l < length (take n l ++ t) = omega (arith, whole, part, leb-false (length t) (length l - n) (lt-leb _ _ c.if-fits.false), c.requires.partial_in_bounds) in
+    record {
+      result_after = λ m. rw (lt-ltb (length l) (length (take n l ++ t)) over)
+          (after.result_after m _ ∙ over_worked (length l) (take n l ++ t) _ _ over (c.misplace.ensures m _));
+      partial_in_bounds_2 = omega (arith, after.partial_value);
+    }

@@ -6,4 +6,7 @@ use Rattle.port_run.proofs.pieces.work.Goals as goal
 pub returns : goal.returns
 returns c =
     let after = c.after_line.ensures in
-    (λ l. after.0 _ l ∙ line_worked _ _ _ _ (rw (← c.roomy.ensures) c.step-stepped.ensures), after.1)
+    record {
+      by_index = λ l. after.result_after _ l ∙ line_worked _ _ _ _ (rw (← c.roomy.ensures) c.step-stepped.ensures);
+      partial_value = after.partial_value;
+    }
