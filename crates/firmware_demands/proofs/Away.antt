@@ -1,7 +1,7 @@
 -- An exported call whose arguments are no controller of ours, no hearings or no flags is turned away, and so is fetching with a page of another
 -- length; and given a controller of ours a call hands back one of ours. Assumes nothing.
 use Prim.Native.Nat.{ℕ}
-use mathlib.Core.Path.{◌≡◌, refl, sym, ◌∙◌, ap}
+use mathlib.Core.Path.{◌≡◌, refl, sym, subst, ◌∙◌, ap}
 use mathlib.Core.Bool.{Bool, true, false, cond, ◌&&◌, true≢false}
 use native.Mathlib.Omega.{arith}
 use Rattle.frames.specs.declared.Hearing.{Hearing}
@@ -123,5 +123,7 @@ called_ours (by_write s) t = t
 called_ours (by_ask r s) t = t
 called_ours (by_fetch r s) t = t
 called_ours (by_reset s) t = rw (resets_promised s) reset_handed
-called_ours {given} {f} (by_setting {t = t} r s) o = rw (set_promised s) (setting_handed given t f o)
-called_ours {f = f} (by_group n k r s) t = rw (group_promised s) (group_handed n k f t)
+called_ours {given} {f} (by_setting {t = t} r s) o =
+    subst (λ (x : FlatTold). ours x.controller ≡ true) (sym (set_promised s)) (setting_handed given t f o)
+called_ours {f = f} (by_group n k r s) t =
+    subst (λ (x : FlatReading). ours x.controller ≡ true) (sym (group_promised s)) (group_handed n k f t)

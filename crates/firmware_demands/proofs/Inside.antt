@@ -73,7 +73,7 @@ reset_made : (s : World) (r : FlatController) → r ≡ flat fresh_controller �
 reset_made s r e = inner.by_reset (ap controller_of e ∙ back fresh_controller ours_fresh)
 
 -- each setting as the promise inside has it
-told_made : {given : Bool} {f : FlatController} {t : Setting} {r : FlatTold} → Set f given t r → (s : World)
+told_made : {f : FlatController} {given : Bool} {t : Setting} {r : FlatTold} → Set f given t r → (s : World)
     → Made s (setting t) (told_for t s.controller).refusal silent (world (told_for t s.controller).controller s.areas)
 unfolding told_for
 told_made (set_address κs {a = a} left p) s = inner.by_set_address {r = told_for (address a) s.controller} refl
@@ -83,7 +83,7 @@ told_made (set_slm κs on left p) s = inner.by_set_slm refl
 told_made (set_ls κs on left p) s = inner.by_set_ls refl
 told_made (clear_ec κs left p) s = inner.by_clear_ec refl
 
-set_ours : {given : Bool} {f : FlatController} {t : Setting} {r : FlatTold} → Set f given t r → given ≡ true → ours f ≡ true
+set_ours : {f : FlatController} {given : Bool} {t : Setting} {r : FlatTold} → Set f given t r → given ≡ true → ours f ≡ true
 set_ours (set_address κs left p) g = g
 set_ours (set_status κs left p) g = g
 set_ours (set_reply_time κs left p) g = g
@@ -99,7 +99,7 @@ ours_told_for t c o = go (setting_out t) refl
     go true e = o
     go false e = ours_told t c e o
 
-set_made : {given : Bool} {f : FlatController} {t : Setting} (m : Areas) (r : FlatTold) → Set f given t r → given ≡ true
+set_made : {f : FlatController} {given : Bool} {t : Setting} (m : Areas) (r : FlatTold) → Set f given t r → given ≡ true
     → Made (world (controller_of f) m) (setting t) r.refusal silent (world (controller_of r.controller) m)
 unfolding set_through
 set_made {f = f} {t = t} m r s g =

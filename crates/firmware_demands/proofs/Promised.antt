@@ -75,7 +75,7 @@ pub resets_promised : {r : FlatController} → Resets r → r ≡ flat fresh_con
 resets_promised (resets κs left e) = e
 
 -- A setting tells what the inner one tells, or is turned away.
-pub set_promised : {given : Bool} {f : FlatController} {t : Setting} {r : FlatTold} → Set f given t r → r ≡ set_through given t f
+pub set_promised : {f : FlatController} {given : Bool} {t : Setting} {r : FlatTold} → Set f given t r → r ≡ set_through given t f
 set_promised (set_address κs left e) = e
 set_promised (set_status κs left e) = e
 set_promised (set_reply_time κs left e) = e

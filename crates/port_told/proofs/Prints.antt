@@ -13,7 +13,7 @@ use Rattle.port_digits.specs.Write.{Paper, paper, onto, last_place}
 use Rattle.port_digits.proofs.Pasting.{written}
 use Rattle.model.specs.Calls.{cleared_areas, start}
 use Rattle.model.specs.Layout.{areas, Areas}
-use Rattle.areas.specs.Lent.{Slice, ◌&◌}
+use Rattle.areas.specs.Lent.{Slice, MutSlice, ◌&◌}
 use Rattle.port_line.specs.Meaning.{state_after}
 use Rattle.port_run.specs.declared.Feed.{Feed}
 use Rattle.port_run.specs.Printed.{longest, printed}
@@ -63,7 +63,7 @@ module _ (o t : List ℕ) (n : ℕ) {k : List ℕ} (short : length o < last_plac
 
 -- the areas and the record before the last call, and what is printed after it
 pub data Reports : Areas → Feed → List ℕ → Type 0 where
-  finishes : (κs : _) (index ports page0 page1 out : Slice) (f : Feed) (r : ℕ) (index' ports' page0' page1' out' : Slice) (left : _)
+  finishes : (κs : _) (index ports page0 page1 : Slice) (out : MutSlice) (f : Feed) (r : ℕ) (index' ports' page0' page1' : Slice) (out' : MutSlice) (left : _)
       → finish-reads.Learnt κs (index & ports & page0 & page1 & out & f & tt) r (index' & ports' & page0' & page1' & out' & left)
       → length out.now < last_place → r ≤ length out'.now
       → Reports (areas index.now ports.now page0.now page1.now) f (take r out'.now)
@@ -71,15 +71,15 @@ pub data Reports : Areas → Feed → List ℕ → Type 0 where
 -- the areas, the bytes of the line's buffer and the record before a call; the pieces that are still fed, and what is printed of them and at
 -- the end: after each call the first bytes of the buffer, for all of which it had room; then its first place is the next again
 pub data Prints : Areas → List ℕ → Feed → List (List ℕ) → List ℕ → Type 0 where
-  feeds : (κs : _) (index ports page0 page1 line out : Slice) (f : Feed) (piece : Slice) (r : Feed)
-      (index' ports' page0' page1' line' out' : Slice) (left : _) (g : Feed) (over : _) (ps : List (List ℕ)) (w : List ℕ)
+  feeds : (κs : _) (index ports page0 page1 line out : MutSlice) (f : Feed) (piece : Slice) (r : Feed)
+      (index' ports' page0' page1' line' out' : MutSlice) (left : _) (g : Feed) (over : _) (ps : List (List ℕ)) (w : List ℕ)
       → feed-reads.Learnt κs (index & ports & page0 & page1 & line & out & f & piece & tt) r
       (index' & ports' & page0' & page1' & line' & out' & left)
       → length out.now < last_place → r.stepped.at ≤ length out'.now
       → rewind-reads.Learnt tt (r & tt) g over
       → Prints (areas index'.now ports'.now page0'.now page1'.now) line'.now g ps w
       → Prints (areas index.now ports.now page0.now page1.now) line.now f (piece.now ∷ ps) (take r.stepped.at out'.now ++ w)
-  closes : (κs : _) (index ports page0 page1 line out : Slice) (f r : Feed) (index' ports' page0' page1' line' out' : Slice) (left : _)
+  closes : (κs : _) (index ports page0 page1 line out : MutSlice) (f r : Feed) (index' ports' page0' page1' line' out' : MutSlice) (left : _)
       (g : Feed) (over : _) (w : List ℕ)
       → close-reads.Learnt κs (index & ports & page0 & page1 & line & out & f & tt) r (index' & ports' & page0' & page1' & line' & out' & left)
       → length out.now < last_place → r.stepped.at ≤ length out'.now
@@ -141,8 +141,8 @@ calls_told {m} {l} {f} {ps} κs a e b calls cleared room = calls_print κs a e b
 -- ---- what the premises let in: the test that a program makes after a call holds wherever the buffer has room for all that is said
 
 -- after a piece
-pub feed_roomy : (κs : _) (index ports page0 page1 line out : Slice) (f : Feed) (piece : Slice) (r : Feed)
-    (index' ports' page0' page1' line' out' : Slice) (left : _)
+pub feed_roomy : (κs : _) (index ports page0 page1 line out : MutSlice) (f : Feed) (piece : Slice) (r : Feed)
+    (index' ports' page0' page1' line' out' : MutSlice) (left : _)
     → feed-reads.Learnt κs (index & ports & page0 & page1 & line & out & f & piece & tt) r (index' & ports' & page0' & page1' & line' & out' & left)
     → f.stepped.at ≡ 0 → length out.now < last_place
     → length (fed (length line.now) (feeding_of (areas index.now ports.now page0.now page1.now) line.now f) piece.now).said ≤ length out.now
@@ -152,7 +152,7 @@ feed_roomy κs index ports page0 page1 line out f piece r index' ports' page0' p
     place_within out.now x.said r.stepped.at short (fed_written line'.now out.now f r x p.0 z) h
 
 -- at the end of the input
-pub close_roomy : (κs : _) (index ports page0 page1 line out : Slice) (f r : Feed) (index' ports' page0' page1' line' out' : Slice) (left : _)
+pub close_roomy : (κs : _) (index ports page0 page1 line out : MutSlice) (f r : Feed) (index' ports' page0' page1' line' out' : MutSlice) (left : _)
     → close-reads.Learnt κs (index & ports & page0 & page1 & line & out & f & tt) r (index' & ports' & page0' & page1' & line' & out' & left)
     → f.stepped.at ≡ 0 → length out.now < last_place
     → length (last_fed (length line.now) (feeding_of (areas index.now ports.now page0.now page1.now) line.now f)).said ≤ length out.now
@@ -162,7 +162,7 @@ close_roomy κs index ports page0 page1 line out f r index' ports' page0' page1'
     place_within out.now x.said r.stepped.at short (fed_written line'.now out.now f r x p.0 z) h
 
 -- after the report
-pub finish_roomy : (κs : _) (index ports page0 page1 out : Slice) (f : Feed) (r : ℕ) (index' ports' page0' page1' out' : Slice) (left : _)
+pub finish_roomy : (κs : _) (index ports page0 page1 : Slice) (out : MutSlice) (f : Feed) (r : ℕ) (index' ports' page0' page1' : Slice) (out' : MutSlice) (left : _)
     → finish-reads.Learnt κs (index & ports & page0 & page1 & out & f & tt) r (index' & ports' & page0' & page1' & out' & left)
     → f.stepped.at ≡ 0 → length out.now < last_place
     → length (closing f.stepped.refusal (state_after (areas index.now ports.now page0.now page1.now) f.stepped)) ≤ length out.now
