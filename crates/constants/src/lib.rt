@@ -2,7 +2,6 @@
 // number is refused where the code that uses it is proved against the definition that has it.
 #![tactic(auto)]
 
-
 // What callers are told; 0 is no refusal.
 pub const AREA: u16 = 1;
 

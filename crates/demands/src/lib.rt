@@ -6,4 +6,3 @@
 // The demands: proofs/OfCall.antt of one call in any memory, proofs/OfCode.antt of sequences, which are runs of the crate `model`, and
 // proofs/OfDamage.antt of a stretch of damage cut out of one; proofs/Again.antt has that the code runs the sequence without the stretch.
 #![tactic(auto)]
-

@@ -4,4 +4,3 @@
 // specs/Flips.antt says what it is that bits are flipped. proofs/Seen.antt has the theorems, for master frames and for slave frames of every
 // size; proofs/Sharp.antt that four flipped bits can pass, and proofs/LetIn.antt what the premises let in.
 #![tactic(auto)]
-

@@ -8,4 +8,3 @@
 // of one call in any memory, proofs/OfExported.antt of sequences, proofs/OfRead.antt of what a host reads, in the numbers that it sees, and
 // proofs/OfDamage.antt of a stretch of damage cut out of a sequence.
 #![tactic(auto)]
-

@@ -4,4 +4,3 @@
 // its call, proofs/Told.antt that exactly this is printed of every input, and proofs/Prints.antt that a program which makes the calls of the
 // crate `port_run`, by their contracts as they stand, prints it in pieces of any sizes.
 #![tactic(auto)]
-

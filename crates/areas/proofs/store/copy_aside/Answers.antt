@@ -2,7 +2,7 @@
 use Rattle.areas.proofs.store.copy_aside.Goals as goal
 
 pub returns-then-one : goal.returns-then-one
-returns-then-one c =     (rw c.if-one.true c.copy.ensures, rw c.if-one.true)
+returns-then-one c = (rw c.if-one.true c.copy.ensures, rw c.if-one.true)
 
 pub returns-else-one : goal.returns-else-one
-returns-else-one c =     (rw c.if-one.false, rw c.if-one.false c.copy-else-one.ensures)
+returns-else-one c = (rw c.if-one.false, rw c.if-one.false c.copy-else-one.ensures)

@@ -10,4 +10,4 @@ returns-then-none c = rw (c.phase_later.ensures, ← c.ends_within-k.ensures, (e
 
 pub returns : goal.returns
 unfolding grown_by aged
-returns c =     rw (c.phase_later-2.ensures, c.age_ports.ensures, ← c.ends_within-k.ensures, (ne_eqb _ _ c.if-none.false))
+returns c = rw (c.phase_later-2.ensures, c.age_ports.ensures, ← c.ends_within-k.ensures, (ne_eqb _ _ c.if-none.false))

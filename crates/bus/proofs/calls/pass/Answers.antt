@@ -16,8 +16,7 @@ loop-left-smaller-then-left-gt0 c =
 
 pub loop-left-preserved-then-left-gt0 : goal.loop-left-preserved-then-left-gt0
 loop-left-preserved-then-left-gt0 c =
-    let l = c.loop-left in
-    (
+    let l = c.loop-left in (
       search rules,
       ap (pulses _) c.pulse-d.ensures ∙ pulse_left _ _ c.if-left-gt0.true ∙ jump_left _ _ _ c.jump-j.ensures
           ∙ l.invariant.1,

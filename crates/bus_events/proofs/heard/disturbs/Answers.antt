@@ -2,4 +2,4 @@
 use Rattle.bus_events.proofs.heard.disturbs.Goals as goal
 
 pub returns-in-Reply : goal.returns-in-Reply
-returns-in-Reply c =     rw (c.both.ensures, c.exempt.ensures, c.is_sound.ensures, c.in-Reply.is)
+returns-in-Reply c = rw (c.both.ensures, c.exempt.ensures, c.is_sound.ensures, c.in-Reply.is)

@@ -16,7 +16,7 @@ unfolding apply
 returns-in-Master c = rw c.in-Master.is
 
 pub returns-then-found : goal.returns-then-found
-returns-then-found c =     rw (c.in-Reply.is, ne_eqb _ _ c.if-found.true) c.store_reply.ensures
+returns-then-found c = rw (c.in-Reply.is, ne_eqb _ _ c.if-found.true) c.store_reply.ensures
 
 pub returns-else-found : goal.returns-else-found
 unfolding apply

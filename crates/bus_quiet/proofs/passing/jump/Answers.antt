@@ -8,4 +8,4 @@ returns-then-only_line_timeouts c = rw (c.rolled.ensures, ← c.resting-only_lin
 
 pub returns : goal.returns
 unfolding jumped
-returns c =     rw (c.later.ensures, c.least-k.ensures, c.free.ensures, ← c.resting-only_line_timeouts.ensures, c.if-only_line_timeouts.false)
+returns c = rw (c.later.ensures, c.least-k.ensures, c.free.ensures, ← c.resting-only_line_timeouts.ensures, c.if-only_line_timeouts.false)

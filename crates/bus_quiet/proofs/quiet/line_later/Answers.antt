@@ -10,7 +10,7 @@ pub returns-then-line_silent : goal.returns-then-line_silent
 returns-then-line_silent c = rw (← c.line_silent.ensures, c.if-line_silent.true)
 
 pub overflow_add-result : goal.overflow_add-result
-overflow_add-result c =     omega (arith, leb-false line_timeout (c.args.t.line + 1) (sym c.line_silent.ensures ∙ c.if-line_silent.false))
+overflow_add-result c = omega (arith, leb-false line_timeout (c.args.t.line + 1) (sym c.line_silent.ensures ∙ c.if-line_silent.false))
 
 pub returns : goal.returns
 returns c = rw (← c.line_silent.ensures, c.if-line_silent.false)

@@ -42,7 +42,7 @@ loop-i-preserved c =
     )
 
 pub shape_of-into-else-ends : goal.shape_of-into-else-ends
-shape_of-into-else-ends c =     c.loop-i.invariant.1
+shape_of-into-else-ends c = c.loop-i.invariant.1
 
 pub returns-else-ends : goal.returns-else-ends
 returns-else-ends c =

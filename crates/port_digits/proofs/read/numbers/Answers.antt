@@ -8,4 +8,4 @@ unfolding largest
 returns-then-t-eq0 c = rw (numbers_empty c.args.t.now c.if-t-eq0.true)
 
 pub returns : goal.returns
-returns c =     rw (numbers_some c.args.t.now c.if-t-eq0.false) c.items.ensures
+returns c = rw (numbers_some c.args.t.now c.if-t-eq0.false) c.items.ensures

@@ -40,7 +40,7 @@ overflow_add-i c =
     omega (arith, c.well_formed.1.1.1.1.1.1.1.0, part_within t c.loop-i.i c.find-n.result c.loop-i-test.true c.find-n.ensures)
 
 pub loop-i-smaller : goal.loop-i-smaller
-loop-i-smaller c =     omega (arith, c.loop-i-test.true)
+loop-i-smaller c = omega (arith, c.loop-i-test.true)
 
 pub loop-i-preserved : goal.loop-i-preserved
 loop-i-preserved c =

@@ -7,11 +7,11 @@ use Rattle.port_run.proofs.pieces.finish.Goals as goal
 
 pub returns-then-whole : goal.returns-then-whole
 unfolding end_text
-returns-then-whole c =     rw ((eq-eqb _ _ c.if-ok.true), sym c.is_whole-whole.ensures ∙ c.if-whole.true) c.put_report.ensures
+returns-then-whole c = rw ((eq-eqb _ _ c.if-ok.true), sym c.is_whole-whole.ensures ∙ c.if-whole.true) c.put_report.ensures
 
 pub returns-then-ok : goal.returns-then-ok
 unfolding end_text
-returns-then-ok c =     rw ((eq-eqb _ _ c.if-ok.true), sym c.is_whole-whole.ensures ∙ c.if-whole.false) c.put_refused.ensures
+returns-then-ok c = rw ((eq-eqb _ _ c.if-ok.true), sym c.is_whole-whole.ensures ∙ c.if-whole.false) c.put_refused.ensures
 
 pub returns : goal.returns
 unfolding onto

@@ -5,4 +5,4 @@ use Rattle.port_text.proofs.say.put_numbered.Goals as goal
 
 pub returns : goal.returns
 unfolding line_text
-returns c =     then _ _ _ (then _ _ _ c.put_key-a.ensures c.put_number-b.ensures) c.put.ensures
+returns c = then _ _ _ (then _ _ _ c.put_key-a.ensures c.put_number-b.ensures) c.put.ensures
