@@ -11,7 +11,7 @@ use Rattle.model.specs.declared.Controller.{Controller}
 use Rattle.model.specs.Layout.{Areas, areas_fit}
 use Rattle.model.specs.Ports.{Standing, standing}
 use Rattle.model.specs.Event.{World, sink_for}
-use Rattle.model.specs.Quiet.{times, missed, effect_later, due, pulse_effect, pulse_controller, pulse, pulses, ticks}
+use Rattle.model.specs.Quiet.{missed, effect_later, due, pulse_effect, pulse_controller, pulse, pulses, ticks}
 use Rattle.model.proofs.Shape.{Shape, Valid, nothing, marking, standing_after}
 use Rattle.model.proofs.ShapeKept.{shape_apply, standing_apply}
 use Rattle.model.proofs.Accepted.{sink_at_lem}

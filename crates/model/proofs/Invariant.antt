@@ -25,8 +25,6 @@ use Rattle.model.specs.declared.Controller.{Controller}
 use Rattle.model.specs.Layout.{Areas}
 use Rattle.model.specs.Ports.{code_of, Standing}
 use Rattle.model.specs.Event.{World, as_master, as_slave, as_heard, heard, heard_by, judged_one}
-use Rattle.model.specs.Quiet.{times}
-use Rattle.model.specs.Host.{status, address}
 use Rattle.model.specs.Calls.{Call, hear, effect, step}
 use Rattle.model.specs.Past.{after, Typed, on_trusted, first_word, awaited, answers, Opening, opening_of, answers_since, last_settings}
 use Rattle.model.specs.Past.{writes_since, last_of, lines_polled, asks_others, judged_as, judgement, add_judged, add_unsound, count_since}

@@ -14,7 +14,7 @@ use Rattle.model.specs.Layout.{areas_fit}
 use Rattle.model.specs.Ports.{untouched, apply}
 use Rattle.model.specs.Event.{World, as_heard, heard, heard_by}
 use Rattle.model.specs.Quiet.{due, effect_later, pulse_effect, pulse_controller, pulse, pulses, ticks}
-use Rattle.model.specs.Host.{device, Setting, address, status, reply_time, slm, ls, ec_clear, reset, group0, group1, tell}
+use Rattle.model.specs.Host.{Setting, address, status, reply_time, slm, ls, ec_clear, reset, group0, group1, tell}
 use Rattle.model.specs.Calls.{Call, hear, refusal, effect, step}
 use Rattle.model.specs.Past.{Happening, hears, passes, sets, changes, happening, after, Typed, Accepted}
 use Rattle.model.specs.Damage.{Damage, HeardAlike, SoundMaster}

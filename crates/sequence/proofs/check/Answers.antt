@@ -1,6 +1,5 @@
 -- `sequence::check` gives the check byte of all the words. The loop's invariant: the words that are left, pushed after those passed,
 -- give the whole remainder, and their ones with those of the words passed, joined, the whole parity. Assumes nothing.
-use Prim.Native.Nat.{◌-◌}
 use native.Mathlib.Nat.{add-zero}
 use native.Mathlib.Omega.{arith}
 use borrow.Author.Rules.{rules}
