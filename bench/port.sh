@@ -1,6 +1,6 @@
 #!/usr/bin/env bash
 # A million lines through the port program, through the reference's and through its peer's at -O3, in turns: nanoseconds a line, and ratios.
-# Needs the kit (rt), rustc and python3; writes only below target/, and where the program is built.
+# Needs the kit (rt), rustc and python3; writes only below target/ and crates/*/out/.
 set -eu
 . "$(dirname "$0")/../tests/port.sh"
 . bench/reference.sh
