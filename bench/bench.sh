@@ -1,6 +1,6 @@
 #!/usr/bin/env bash
 # The library's calls against the plain reference and its peer at -O3, in one run: nanoseconds, ratios and real-time factor.
-# Needs the kit (rt) and rustc; writes only below target/.
+# Needs the kit (rt) and rustc; writes only below target/ and crates/*/out/.
 set -eu
 . "$(dirname "$0")/../firmware/archive.sh"
 . bench/reference.sh

@@ -1,6 +1,7 @@
 #!/usr/bin/env bash
 # Instructions of one call, of the library and of the peer: callgrind counts two runs of different length, and their difference leaves out what the
-# program does besides. They do not depend on what else the machine does. Needs the kit (rt), rustc and valgrind; writes only below target/.
+# program does besides. They do not depend on what else the machine does. Needs the kit (rt), rustc and valgrind; writes only below target/
+# and crates/*/out/.
 set -eu
 cd "$(dirname "$0")/.."
 bench/bench.sh checks library 1 0

@@ -1,6 +1,6 @@
 #!/usr/bin/env bash
 # What firmware pays: the sections of the archive, the deepest stack of each exported call, and the size of the controller.
-# Needs the kit (rt), gcc and binutils; writes only below target/.
+# Needs the kit (rt), gcc and binutils; writes only below target/ and crates/*/out/.
 set -eu
 . "$(dirname "$0")/../firmware/archive.sh"
 mkdir -p target/bench

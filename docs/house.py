@@ -22,29 +22,47 @@ def allowed():
     lists = {}
     for line in open(os.path.join(ROOT, "crates.txt"), encoding="utf-8"):
         if not line.startswith("#") and ":" in line:
-            name, rest = line.split(":")
-            lists[name] = rest.split()
+            head, rest = line.split(":")
+            lists[head.split()[0]] = rest.split()
     return {name: [d for d in rest if d in lists] for name, rest in lists.items()}
 
 
 def texts(name):
-    """The texts of a crate's files."""
+    """The texts of a crate's files, with the files' names."""
     for folder in ("src", "specs", "proofs"):
         for place, _, files in os.walk(os.path.join(ROOT, "crates", name, folder)):
             for file in files:
                 with open(os.path.join(place, file), encoding="utf-8") as f:
-                    yield f.read()
+                    yield file, f.read()
+
+
+def brought(tree):
+    """The names that a `use` of this tree brings in: `a::{b, c as d}` brings b and d."""
+    inner = re.search(r"\{(.*)\}$", tree, re.S)
+    if not inner:
+        return {re.split(r"::|\bas\b", tree)[-1].strip()}
+    depth, parts = 0, [""]
+    for c in inner.group(1):
+        depth += (c == "{") - (c == "}")
+        if c == "," and depth == 0:
+            parts.append("")
+        else:
+            parts[-1] += c
+    return set().union(*(brought(part.strip()) for part in parts if part.strip()))
 
 
 def used(name, others):
     """The crates that a crate's `use` lines name, or that its code calls by their path."""
     found = set()
-    for text in texts(name):
-        found.update(re.findall(r"^(?:ghost |pub )?use Rattle·(\w+)\.", text, re.M))
-        found.update(re.findall(r"^use (\w+)::", text, re.M))
-        modules = set(re.findall(r"^use [\w:]*::(\w+);", text, re.M))
-        code = "\n".join(line for line in text.split("\n") if not line.lstrip().startswith(("//", "--")))
-        found.update(set(re.findall(r"(?<![\w:])(\w+)::\w", code)) - modules)
+    for file, text in texts(name):
+        found.update(re.findall(r"^\s*(?:ghost |pub )*use Rattle\.(\w+)\.", text, re.M))
+        if not file.endswith(".rt"):
+            continue
+        code = "\n".join(line for line in text.split("\n") if not line.lstrip().startswith("//"))
+        trees = re.findall(r"^\s*(?:pub(?:\([^)]*\))? )?use ([^;]*);", code, re.M)
+        found.update(tree.split("::")[0] for tree in trees)
+        own = set(re.findall(r"^\s*(?:pub(?:\([^)]*\))? )?mod (\w+)", code, re.M)).union(*(brought(tree) for tree in trees))
+        found.update(set(re.findall(r"(?<![\w:])(\w+)::\w", code)) - own)
     return found & set(others)
 
 

@@ -1,12 +1,16 @@
 #!/usr/bin/env python3
-"""Writes into tolvendrum.h and tolvendrum.rs what the crates say once: the structs, the numbers, the interrupt bits.
+"""Writes into tolvendrum.h and tolvendrum.rs what the crates say once: the structs, the numbers, the interrupt bits; and the modules of the
+crate firmware_c, which exports the calls of the crate firmware.
 
-usage: make.py            write both files anew
+usage: make.py            write all of these files anew
        make.py --check    write nothing; exit with 1 where a file is not what would be written, or declares a call otherwise
 
 The structs are those that crates/firmware_layout and crates/firmware declare #[repr(C)], with their comments; the numbers are those of
 crates/constants and crates/interrupts. They stand between a line with "from the crates: NAME" and one with "end". The calls are declared
 by hand, for the sake of their words; their names and the types of their parameters are compared with the exported functions.
+
+A module of firmware_c has a function for each `tolvendrum_..` of the module of firmware that has its name: it says what that one says, in the
+same words, and calls it.
 """
 import os
 import re
@@ -26,7 +30,8 @@ def read(*path):
 def structs():
     """Each #[repr(C)] struct: its name, its comment, and its fields as (name, type, comment)."""
     text = read(CRATES, "firmware_layout", "src", "lib.rt") + read(CRATES, "firmware", "src", "lib.rt")
-    for comment, name, body in re.findall(r"((?:^//[^\n]*\n)*)#\[repr\(C\)\]\npub struct (\w+) \{\n(.*?)^\}", text, re.M | re.S):
+    declared = r"((?:^//[^\n]*\n)*)#\[repr\(C\)\]\n(?:#\[derive[^\n]*\n)*pub struct (\w+) \{\n(.*?)^\}"
+    for comment, name, body in re.findall(declared, text, re.M | re.S):
         words = " ".join(line.lstrip("/ ") for line in comment.strip().split("\n"))
         yield name, words, re.findall(r"pub (\w+): ([^,]+),(?: // (.*))?", body)
 
@@ -42,7 +47,9 @@ def group_names(group):
     text = read(CRATES, "interrupts", "src", "names.rt")
     body = re.search(r"pub fn group%d\(\).*?\[\n(.*?)\n    \]" % group, text, re.S).group(1)
     values = dict(re.findall(r"^pub const (\w+): u16 = ([^;]+);", text, re.M))
-    for place, entry in enumerate(line.strip(" ,") for line in body.split("\n")):
+    entries = [entry.strip() for entry in body.split(",") if entry.strip()]
+    assert len(entries) == 16
+    for place, entry in enumerate(entries):
         name = re.sub(r"data_transfer\((\d)\)", r"DTI\1", entry)
         if name != "0":
             word = eval(values[name]) if name in values else 1 << 15 - place
@@ -50,12 +57,70 @@ def group_names(group):
             yield name, word
 
 
-def calls():
-    """The exported functions: name, the types of the parameters, and the type of the result."""
+def modules():
+    """The modules of the crate firmware that have calls, in the order of their names: the name, the text and the calls, each as (comment,
+    name, lifetime, parameters, result, clauses)."""
+    call = r"((?:^//[^\n]*\n)*)^pub fn (tolvendrum_\w+)(<'a>)?\(([^)]*)\)(?: -> (\w+))?\n((?:^    [^\n]*\n)*)\{"
     for file in sorted(os.listdir(os.path.join(CRATES, "firmware", "src"))):
         text = read(CRATES, "firmware", "src", file)
-        for name, given, result in re.findall(r'pub extern "C" fn (\w+)(?:<\'a>)?\((.*?)\)(?: -> (\w+))?\n', text, re.S):
-            yield name, [re.sub(r"'a ", "", t) for t in re.findall(r"\w+: ([^,\n]+)", given)], result
+        found = [(comment, name, life, [p.strip() for p in given.split(",") if p.strip()], result, clauses)
+                 for comment, name, life, given, result, clauses in re.findall(call, text, re.M)]
+        if len(found) != len(re.findall(r"\bfn tolvendrum_", text)):
+            sys.exit("make.py: a call in crates/firmware/src/%s cannot be read" % file)
+        if found:
+            yield file[:-len(".rt")], text, found
+
+
+def calls():
+    """The exported functions: name, the types of the parameters, and the type of the result."""
+    for _, _, found in modules():
+        for _, name, _, given, result, _ in found:
+            yield name, [re.sub(r"'a ", "", p.split(": ")[1]) for p in given], result
+
+
+# ---- the crate firmware_c
+
+# Where the types of the calls are declared, beside crates/firmware.
+TYPES = {"FlatController": "firmware_layout", "FlatHearing": "firmware_layout", "GroupCall": "host_controller"}
+
+
+def words_of(text):
+    """The words of a clause, and the marks of its operators."""
+    return set(re.findall(r"\w+'*|\[\]|[^\w\s(){}.]+", text))
+
+
+def laid_out(head, items, tail, width):
+    """`head(a, b)tail` as rt fmt lays it out: in one line where the items take so many columns at most and the line takes 100, else with the
+    items below, in one line if all are short."""
+    joined = ", ".join(items)
+    line = "%s(%s)%s" % (head, joined, tail)
+    if len(line) <= 100 and len(joined) <= width:
+        return line
+    indent = re.match(r" *", head).group(0)
+    below = [joined] if max(map(len, items)) <= 10 else items
+    return "%s(\n%s%s)%s" % (head, "".join("%s    %s,\n" % (indent, item) for item in below), indent, tail)
+
+
+def exports(module, text, found):
+    """The module of firmware_c for a module of firmware."""
+    said = words_of("".join(clauses for *_, clauses in found))
+    yield "// The calls of the module `%s` of `firmware`, for C. Written by firmware/make.py." % module
+    for path, names in re.findall(r"^ghost use (Rattle\.[\w.]+)\.\{(.*)\};", text, re.M):
+        cited = [name for name in names.split(", ") if name.replace("◌", "") in said]
+        if cited:
+            yield "ghost use %s.{%s};" % (path, ", ".join(cited))
+    yield ""
+    crates = {}
+    for name in sorted(set(re.findall(r"\b[A-Z]\w+", " ".join(" ".join(given + [result]) for _, _, _, given, result, _ in found))) | said & {"GroupCall"}):
+        crates.setdefault(TYPES.get(name, "firmware"), []).append(name)
+    for crate, names in sorted(crates.items()):
+        yield "use %s::%s;" % (crate, names[0] if len(names) == 1 else "{%s}" % ", ".join(names))
+    for comment, name, life, given, result, clauses in found:
+        yield "\n%s#[unsafe(no_mangle)]" % comment
+        yield laid_out('pub extern "C" fn %s%s' % (name, life), given, " -> " + result, 100)
+        yield clauses + "{"
+        yield laid_out("    firmware::%s::%s" % (module, name), [p.split(":")[0] for p in given], "", 60)
+        yield "}"
 
 
 # ---- C
@@ -274,19 +339,25 @@ def compare(file, found, expected):
 def main(words):
     if words not in ([], ["--check"]):
         sys.exit(__doc__)
-    texts = {name: read(HERE, name) for name in ("tolvendrum.h", "tolvendrum.rs")}
+    header, binding = read(HERE, "tolvendrum.h"), read(HERE, "tolvendrum.rs")
     new = {
-        "tolvendrum.h": filled(texts["tolvendrum.h"], {"numbers": c_numbers(), "bits": c_bits(), "structs": c_structs()}),
-        "tolvendrum.rs": filled(texts["tolvendrum.rs"], {"numbers": rust_numbers(), "bits": rust_bits(), "structs": rust_structs()}),
+        "firmware/tolvendrum.h": filled(header, {"numbers": c_numbers(), "bits": c_bits(), "structs": c_structs()}),
+        "firmware/tolvendrum.rs": filled(binding, {"numbers": rust_numbers(), "bits": rust_bits(), "structs": rust_structs()}),
     }
-    compare("tolvendrum.h", c_calls(new["tolvendrum.h"]), c_expected())
-    compare("tolvendrum.rs", rust_calls(new["tolvendrum.rs"]), rust_expected())
+    compare("tolvendrum.h", c_calls(new["firmware/tolvendrum.h"]), c_expected())
+    compare("tolvendrum.rs", rust_calls(new["firmware/tolvendrum.rs"]), rust_expected())
+    for module, text, found in modules():
+        new["crates/firmware_c/src/%s.rt" % module] = "\n".join(exports(module, text, found)) + "\n"
+    root = os.path.join(HERE, "..")
+    beside = {"crates/firmware_c/src/" + file for file in os.listdir(os.path.join(CRATES, "firmware_c", "src"))} - set(new)
+    if beside != {"crates/firmware_c/src/lib.rt"}:
+        sys.exit("make.py: crates/firmware_c/src has %s beside the modules of calls" % (", ".join(sorted(beside)) or "no lib.rt"))
     for name, text in new.items():
         if words == ["--check"]:
-            if text != texts[name]:
-                sys.exit("make.py: firmware/%s is not what the crates say" % name)
+            if not os.path.exists(os.path.join(root, name)) or text != read(root, name):
+                sys.exit("make.py: %s is not what the crates say" % name)
         else:
-            with open(os.path.join(HERE, name), "w", encoding="utf-8") as f:
+            with open(os.path.join(root, name), "w", encoding="utf-8") as f:
                 f.write(text)
     print("firmware: %d structs and %d calls, as the crates have them" % (len(list(structs())), len(list(calls()))))
 

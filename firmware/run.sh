@@ -1,7 +1,7 @@
 #!/usr/bin/env bash
 # Over the archive: a C program that reads every field by its name, and the listener in C and in Rust, whose output is compared with
 # listen.expected. The header is compiled as C++ too, and the Rust binding without its standard library. Needs the kit (rt), gcc, g++ and
-# rustc; writes only below target/.
+# rustc; writes only below target/ and crates/*/out/.
 set -eu
 . "$(dirname "$0")/archive.sh"
 out=target/firmware

@@ -1,4 +1,4 @@
-/* Tolvendrum: the bus controller for C (C11) and C++ (C++11). The archive is made by `rt staticlib firmware`
+/* Tolvendrum: the bus controller for C (C11) and C++ (C++11). The archive is made by firmware/archive.sh
  * (target/staticlib/libfirmware.a), for x86-64.
  *
  * The controller is a struct of 16-bit numbers that goes into a call by value and comes back in its answer. Nothing is kept between calls,

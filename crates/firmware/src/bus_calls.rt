@@ -40,8 +40,7 @@ fn turn_away(number: u16, c: FlatController) -> FlatAnswered
 }
 
 // A bus event: what line A and what line B heard.
-#[unsafe(no_mangle)]
-pub extern "C" fn tolvendrum_hear(
+pub fn tolvendrum_hear(
     index: &[u16],
     ports: &mut [u16],
     page0: &mut [u16],
@@ -68,8 +67,7 @@ pub extern "C" fn tolvendrum_hear(
 }
 
 // Quiet bit times, n of them.
-#[unsafe(no_mangle)]
-pub extern "C" fn tolvendrum_quiet(
+pub fn tolvendrum_quiet(
     index: &[u16],
     ports: &mut [u16],
     page0: &[u16],
@@ -89,8 +87,7 @@ pub extern "C" fn tolvendrum_quiet(
 }
 
 // The check bytes of a frame.
-#[unsafe(no_mangle)]
-pub extern "C" fn tolvendrum_checks(words: &[u16]) -> FlatChecks
+pub fn tolvendrum_checks(words: &[u16]) -> FlatChecks
     ensures { result ≡ flat_checks words.now }
 {
     let f = sequence::frame_checks(words);

@@ -52,48 +52,42 @@ fn on_group(c: FlatController, n: u16, k: GroupCall) -> FlatReading
 }
 
 // Reading status freezes.
-#[unsafe(no_mangle)]
-pub extern "C" fn tolvendrum_read_status(c: FlatController, group: u16) -> FlatReading
+pub fn tolvendrum_read_status(c: FlatController, group: u16) -> FlatReading
     ensures { result ≡ read_through group GroupCall.ReadStatus c }
 {
     on_group(c, group, GroupCall::ReadStatus)
 }
 
 // 256 + the number of the highest set status bit, which is cleared, or 0; freezes.
-#[unsafe(no_mangle)]
-pub extern "C" fn tolvendrum_read_vector(c: FlatController, group: u16) -> FlatReading
+pub fn tolvendrum_read_vector(c: FlatController, group: u16) -> FlatReading
     ensures { result ≡ read_through group GroupCall.ReadVector c }
 {
     on_group(c, group, GroupCall::ReadVector)
 }
 
 // Writing status clears where 0 is written.
-#[unsafe(no_mangle)]
-pub extern "C" fn tolvendrum_write_status(c: FlatController, group: u16, value: u16) -> FlatReading
+pub fn tolvendrum_write_status(c: FlatController, group: u16, value: u16) -> FlatReading
     ensures { result ≡ read_through group (GroupCall.WriteStatus value) c }
 {
     on_group(c, group, GroupCall::WriteStatus(value))
 }
 
 // Writing the vector releases the group and lets pending through.
-#[unsafe(no_mangle)]
-pub extern "C" fn tolvendrum_write_vector(c: FlatController, group: u16) -> FlatReading
+pub fn tolvendrum_write_vector(c: FlatController, group: u16) -> FlatReading
     ensures { result ≡ read_through group GroupCall.WriteVector c }
 {
     on_group(c, group, GroupCall::WriteVector)
 }
 
 // Writing pending replaces it.
-#[unsafe(no_mangle)]
-pub extern "C" fn tolvendrum_write_pending(c: FlatController, group: u16, value: u16) -> FlatReading
+pub fn tolvendrum_write_pending(c: FlatController, group: u16, value: u16) -> FlatReading
     ensures { result ≡ read_through group (GroupCall.WritePending value) c }
 {
     on_group(c, group, GroupCall::WritePending(value))
 }
 
 // Writing the mask replaces it.
-#[unsafe(no_mangle)]
-pub extern "C" fn tolvendrum_write_mask(c: FlatController, group: u16, value: u16) -> FlatReading
+pub fn tolvendrum_write_mask(c: FlatController, group: u16, value: u16) -> FlatReading
     ensures { result ≡ read_through group (GroupCall.WriteMask value) c }
 {
     on_group(c, group, GroupCall::WriteMask(value))
@@ -122,8 +116,7 @@ fn answer(given: bool, value: u16) -> Number
 }
 
 // The outgoing line: 1 while it is active.
-#[unsafe(no_mangle)]
-pub extern "C" fn tolvendrum_line(c: FlatController, group: u16) -> Number
+pub fn tolvendrum_line(c: FlatController, group: u16) -> Number
     ensures { result ≡ asks (ours c && is_bit group) (bit_of (active (group_at group (controller_of c)))) }
 {
     let g = group_at(group, state::controller_of(c));
@@ -131,8 +124,7 @@ pub extern "C" fn tolvendrum_line(c: FlatController, group: u16) -> Number
 }
 
 // FC, which counts judged frames.
-#[unsafe(no_mangle)]
-pub extern "C" fn tolvendrum_fc(c: FlatController) -> Number
+pub fn tolvendrum_fc(c: FlatController) -> Number
     ensures { result ≡ asks (ours c) (controller_of c).counts.fc }
 {
     let n = state::controller_of(c).counts;
@@ -140,8 +132,7 @@ pub extern "C" fn tolvendrum_fc(c: FlatController) -> Number
 }
 
 // EC, which counts unsound ones.
-#[unsafe(no_mangle)]
-pub extern "C" fn tolvendrum_ec(c: FlatController) -> Number
+pub fn tolvendrum_ec(c: FlatController) -> Number
     ensures { result ≡ asks (ours c) (controller_of c).counts.ec }
 {
     let n = state::controller_of(c).counts;

@@ -1,4 +1,5 @@
-// The controller as a static library for C and for Rust: everything a host does, as exported calls (firmware/tolvendrum.h declares them).
+// The controller for C and for Rust: everything a host does, as calls that the crate `firmware_c` exports (firmware/tolvendrum.h declares
+// them).
 //
 // What crosses the boundary are numbers, slices of words and structs of numbers alone, in C's layout: those below and those of the crate
 // `firmware_layout`. A struct that is no controller or no hearing of ours (`ours` and `formed` there) is an argument out of range, and so

@@ -18,8 +18,7 @@ use model::Answer;
 
 // Opens port p at address a, as a sink (1) or a source (0) of this F-code, with a data transfer interrupt or 0, and a limit in milliseconds or
 // 0 where it is not supervised.
-#[unsafe(no_mangle)]
-pub extern "C" fn tolvendrum_open(
+pub fn tolvendrum_open(
     index: &mut [u16],
     ports: &mut [u16],
     page0: &[u16],
@@ -54,8 +53,7 @@ pub extern "C" fn tolvendrum_open(
 }
 
 // Closes the port at address a.
-#[unsafe(no_mangle)]
-pub extern "C" fn tolvendrum_close(
+pub fn tolvendrum_close(
     index: &mut [u16],
     ports: &mut [u16],
     page0: &[u16],
@@ -73,8 +71,7 @@ pub extern "C" fn tolvendrum_close(
 }
 
 // Writes to the source at address a, in its exact size.
-#[unsafe(no_mangle)]
-pub extern "C" fn tolvendrum_write(
+pub fn tolvendrum_write(
     index: &[u16],
     ports: &mut [u16],
     page0: &mut [u16],
@@ -131,8 +128,7 @@ fn ask(index: &[u16], ports: &[u16], a: u16) -> Answer
 }
 
 // Asks for the state of the port at address a, from the index table and the port words alone: 0 never, 1 good, 2 held, 3 stale.
-#[unsafe(no_mangle)]
-pub extern "C" fn tolvendrum_ask(index: &[u16], ports: &[u16], a: u16) -> Number
+pub fn tolvendrum_ask(index: &[u16], ports: &[u16], a: u16) -> Number
     ensures { result ≡ answer_number (asked (areas index.now ports.now [] []) a) }
 {
     answer_number(ask(index, ports, a))
@@ -158,8 +154,7 @@ fn part<'a>(index: &[u16], ports: &[u16], page0: &'a [u16], page1: &'a [u16], a:
 
 // The valid words of the port at address a, copied out; none exactly when asking refuses or answers never, or a page has another length. Such
 // a page is refused here with 1, though asking is not.
-#[unsafe(no_mangle)]
-pub extern "C" fn tolvendrum_fetch<'a>(
+pub fn tolvendrum_fetch<'a>(
     index: &[u16],
     ports: &[u16],
     page0: &'a [u16],

@@ -14,8 +14,7 @@ use host_controller::{Told, settings};
 use model::Controller;
 
 // A fresh controller.
-#[unsafe(no_mangle)]
-pub extern "C" fn tolvendrum_reset() -> FlatController
+pub fn tolvendrum_reset() -> FlatController
     ensures { result ≡ flat fresh_controller }
 {
     state::flat(settings::reset())
@@ -50,8 +49,7 @@ fn flat_told(given: bool, t: Told, f: FlatController) -> FlatTold
 }
 
 // The device address, 0 to 4095.
-#[unsafe(no_mangle)]
-pub extern "C" fn tolvendrum_set_address(c: FlatController, a: u16) -> FlatTold
+pub fn tolvendrum_set_address(c: FlatController, a: u16) -> FlatTold
     ensures { result ≡ set_through (ours c) (address a) c }
 {
     let t = settings::set_address(state::controller_of(c), a);
@@ -59,8 +57,7 @@ pub extern "C" fn tolvendrum_set_address(c: FlatController, a: u16) -> FlatTold
 }
 
 // The status word that a poll of our address is answered with, with LAA and RLD in it.
-#[unsafe(no_mangle)]
-pub extern "C" fn tolvendrum_set_status(c: FlatController, w: u16) -> FlatTold
+pub fn tolvendrum_set_status(c: FlatController, w: u16) -> FlatTold
     ensures { result ≡ set_through (ours c) (status w) c }
 {
     let t = made(settings::set_status(state::controller_of(c), w));
@@ -68,8 +65,7 @@ pub extern "C" fn tolvendrum_set_status(c: FlatController, w: u16) -> FlatTold
 }
 
 // The reply time that the next sound master frame adopts: 32, 64, 96 or 128 bit times.
-#[unsafe(no_mangle)]
-pub extern "C" fn tolvendrum_set_reply_time(c: FlatController, time: u16) -> FlatTold
+pub fn tolvendrum_set_reply_time(c: FlatController, time: u16) -> FlatTold
     ensures { result ≡ set_through (ours c) (reply_time time) c }
 {
     let t = settings::set_reply_time(state::controller_of(c), time);
@@ -77,8 +73,7 @@ pub extern "C" fn tolvendrum_set_reply_time(c: FlatController, time: u16) -> Fla
 }
 
 // Single line mode, 0 or 1.
-#[unsafe(no_mangle)]
-pub extern "C" fn tolvendrum_set_slm(c: FlatController, on: u16) -> FlatTold
+pub fn tolvendrum_set_slm(c: FlatController, on: u16) -> FlatTold
     ensures { result ≡ set_through (ours c && is_bit on) (slm (is_set on)) c }
 {
     let t = made(settings::set_slm(state::controller_of(c), is_set(on)));
@@ -86,8 +81,7 @@ pub extern "C" fn tolvendrum_set_slm(c: FlatController, on: u16) -> FlatTold
 }
 
 // A line switch filed (1), or withdrawn (0).
-#[unsafe(no_mangle)]
-pub extern "C" fn tolvendrum_set_ls(c: FlatController, on: u16) -> FlatTold
+pub fn tolvendrum_set_ls(c: FlatController, on: u16) -> FlatTold
     ensures { result ≡ set_through (ours c && is_bit on) (ls (is_set on)) c }
 {
     let t = made(settings::set_ls(state::controller_of(c), is_set(on)));
@@ -95,8 +89,7 @@ pub extern "C" fn tolvendrum_set_ls(c: FlatController, on: u16) -> FlatTold
 }
 
 // EC is cleared.
-#[unsafe(no_mangle)]
-pub extern "C" fn tolvendrum_clear_ec(c: FlatController) -> FlatTold
+pub fn tolvendrum_clear_ec(c: FlatController) -> FlatTold
     ensures { result ≡ set_through (ours c) ec_clear c }
 {
     let t = made(settings::clear_ec(state::controller_of(c)));
