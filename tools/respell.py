@@ -58,6 +58,8 @@ def defined(root):
         found.update(m.group(1) for m in DEF.finditer(t))
         found.update(n for m in SHARED.finditer(t) for n in m.group(1).split() if "-" not in n)
         found.update(n for n in GIVEN.findall(t) if "-" not in n)
+    for p in files(os.path.join(root, "crates"), ".rt"):
+        found.update(GIVEN.findall(read(p)))
     return {n for n in found if re.fullmatch(r"\w[\w'-]*", n) and "--" not in n and not n.endswith("-")}
 
 
@@ -87,9 +89,11 @@ def mapping(root):
     # a definition beside a lemma of that name
     camel = {new for n, new in table.items() if "-" not in n}
     for n in sorted(own):
+        if table.get(n, n) in BOTH:
+            continue
         if "-" in n and (table[n] in camel or table[n] in own):
             table[n] += "_lem"
-        elif n in camel and n not in table and n not in BOTH:
+        elif n in camel and n not in table:
             table[n] = n + "_lem"
     taken = {}
     for n in sorted(own):
@@ -101,7 +105,7 @@ def mapping(root):
 
 
 # Names that two crates give to different things, and that no file knows both of.
-BOTH = {"all_right"}
+BOTH = {"all_right", "read_status", "read_vector", "write_status", "write_vector", "write_pending", "write_mask"}
 
 
 def replaced(t, table, before):

@@ -28,7 +28,7 @@ use Rattle.firmware.proofs.group_calls.tolvendrum_write_status.Reads as write-st
 use Rattle.firmware.proofs.group_calls.tolvendrum_write_vector.Reads as write-vector-reads
 use Rattle.firmware.proofs.group_calls.tolvendrum_write_pending.Reads as write-pending-reads
 use Rattle.firmware.proofs.group_calls.tolvendrum_write_mask.Reads as write-mask-reads
-use Rattle.firmware.proofs.group_calls.tolvendrum_line.Reads as line_reads_lem
+use Rattle.firmware.proofs.group_calls.tolvendrum_line.Reads as line-reads
 use Rattle.firmware.proofs.group_calls.tolvendrum_fc.Reads as fc-reads
 use Rattle.firmware.proofs.group_calls.tolvendrum_ec.Reads as ec-reads
 
@@ -134,7 +134,7 @@ pub one_write_mask : One write-mask-reads.Learnt
 one_write_mask κs a r q e d x y = x ∙ sym y
 
 -- `tolvendrum_line` answers one refusal number and one value of the outgoing line.
-pub one_line : One line_reads_lem.Learnt
+pub one_line : One line-reads.Learnt
 one_line κs a r q e d x y = x ∙ sym y
 
 -- `tolvendrum_fc` answers one refusal number and one FC.

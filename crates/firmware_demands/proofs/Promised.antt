@@ -27,7 +27,7 @@ use Rattle.firmware.specs.Promise.{asks as number_of}
 use Rattle.firmware_demands.specs.Clauses.{Hears, hears, Quiets, quiets, Checks, checks, Opens, opens, Closes, closes, Writes, writes, Asks, asks}
 use Rattle.firmware_demands.specs.Clauses.{Fetches, fetches, Resets, resets, ReadsFC, fc, ReadsEC, ec, ReadsLine, line}
 use Rattle.firmware_demands.specs.Clauses.{Set, set_address, set_status, set_reply_time, set_slm, set_ls, clear_ec}
-use Rattle.firmware_demands.specs.Clauses.{OnGroup, read_status_lem, read_vector_lem, write_status_lem, write_vector_lem, write_pending_lem, write_mask_lem}
+use Rattle.firmware_demands.specs.Clauses.{OnGroup, read_status, read_vector, write_status, write_vector, write_pending, write_mask}
 
 -- ---- bus_calls
 
@@ -87,12 +87,12 @@ set_promised (clear_ec κs left e) = e
 
 -- A call on a group reads and leaves what the inner one does, or is turned away.
 pub group_promised : {f : FlatController} {n : ℕ} {k : GroupCall} {r : FlatReading} → OnGroup f n k r → r ≡ read_through n k f
-group_promised (read_status_lem κs left e) = e
-group_promised (read_vector_lem κs left e) = e
-group_promised (write_status_lem κs left e) = e
-group_promised (write_vector_lem κs left e) = e
-group_promised (write_pending_lem κs left e) = e
-group_promised (write_mask_lem κs left e) = e
+group_promised (read_status κs left e) = e
+group_promised (read_vector κs left e) = e
+group_promised (write_status κs left e) = e
+group_promised (write_vector κs left e) = e
+group_promised (write_pending κs left e) = e
+group_promised (write_mask κs left e) = e
 
 -- FC is that of the controller; of numbers that are none of ours the answer is 2.
 pub fc_promised : {f : FlatController} {r : Number} → ReadsFC f r → r ≡ number_of (ours f) (controller_of f).counts.fc

@@ -38,7 +38,7 @@ use Rattle.firmware.proofs.group_calls.tolvendrum_write_status.Reads as write-st
 use Rattle.firmware.proofs.group_calls.tolvendrum_write_vector.Reads as write-vector-reads
 use Rattle.firmware.proofs.group_calls.tolvendrum_write_pending.Reads as write-pending-reads
 use Rattle.firmware.proofs.group_calls.tolvendrum_write_mask.Reads as write-mask-reads
-use Rattle.firmware.proofs.group_calls.tolvendrum_line.Reads as line_reads_lem
+use Rattle.firmware.proofs.group_calls.tolvendrum_line.Reads as line-reads
 use Rattle.firmware.proofs.group_calls.tolvendrum_fc.Reads as fc-reads
 use Rattle.firmware.proofs.group_calls.tolvendrum_ec.Reads as ec-reads
 
@@ -115,14 +115,14 @@ pub data Set (f : FlatController) : Bool → Setting → FlatTold → Type 0 whe
 
 -- a call on the interrupt group n of the controller f
 pub data OnGroup (f : FlatController) (n : ℕ) : GroupCall → FlatReading → Type 0 where
-  read_status_lem : (κs : _) {r : FlatReading} (left : _) → read-status-reads.Learnt κs (f & n & tt) r left → OnGroup f n ReadStatus r
-  read_vector_lem : (κs : _) {r : FlatReading} (left : _) → read-vector-reads.Learnt κs (f & n & tt) r left → OnGroup f n ReadVector r
-  write_status_lem : (κs : _) {v : ℕ} {r : FlatReading} (left : _) → write-status-reads.Learnt κs (f & n & v & tt) r left
+  read_status : (κs : _) {r : FlatReading} (left : _) → read-status-reads.Learnt κs (f & n & tt) r left → OnGroup f n ReadStatus r
+  read_vector : (κs : _) {r : FlatReading} (left : _) → read-vector-reads.Learnt κs (f & n & tt) r left → OnGroup f n ReadVector r
+  write_status : (κs : _) {v : ℕ} {r : FlatReading} (left : _) → write-status-reads.Learnt κs (f & n & v & tt) r left
       → OnGroup f n (WriteStatus v) r
-  write_vector_lem : (κs : _) {r : FlatReading} (left : _) → write-vector-reads.Learnt κs (f & n & tt) r left → OnGroup f n WriteVector r
-  write_pending_lem : (κs : _) {v : ℕ} {r : FlatReading} (left : _) → write-pending-reads.Learnt κs (f & n & v & tt) r left
+  write_vector : (κs : _) {r : FlatReading} (left : _) → write-vector-reads.Learnt κs (f & n & tt) r left → OnGroup f n WriteVector r
+  write_pending : (κs : _) {v : ℕ} {r : FlatReading} (left : _) → write-pending-reads.Learnt κs (f & n & v & tt) r left
       → OnGroup f n (WritePending v) r
-  write_mask_lem : (κs : _) {v : ℕ} {r : FlatReading} (left : _) → write-mask-reads.Learnt κs (f & n & v & tt) r left
+  write_mask : (κs : _) {v : ℕ} {r : FlatReading} (left : _) → write-mask-reads.Learnt κs (f & n & v & tt) r left
       → OnGroup f n (WriteMask v) r
 
 -- FC was read
@@ -135,4 +135,4 @@ pub data ReadsEC (f : FlatController) : Number → Type 0 where
 
 -- the outgoing line of group n was read
 pub data ReadsLine (f : FlatController) (n : ℕ) : Number → Type 0 where
-  line : (κs : _) {r : Number} (left : _) → line_reads_lem.Learnt κs (f & n & tt) r left → ReadsLine f n r
+  line : (κs : _) {r : Number} (left : _) → line-reads.Learnt κs (f & n & tt) r left → ReadsLine f n r

@@ -3,7 +3,7 @@ ghost use Rattle.std.specs.Prelude.{◌≡◌, List, ℕ};
 ghost use Rattle.port_digits.specs.Write.{paper};
 ghost use Rattle.model.specs.Layout.{areas, Areas};
 ghost use Rattle.bus.specs.Promise.{as_outcome};
-ghost use Rattle.port_text.specs.Line.{addr, fcode, dir, index as indexLine, framed, quiet, written};
+ghost use Rattle.port_text.specs.Line.{addr, fcode, dir, index as index_line, framed, quiet, written};
 ghost use Rattle.port_line.specs.Meaning.{begun, setup, whole, misplaced, describes, answered, number_read, given, worded, meaning};
 ghost use Rattle.port_line.specs.Meaning.{state_after, ended, ended_by};
 
@@ -135,7 +135,7 @@ pub(crate) fn open(
     ensures { (o : List ℕ) →
         ended (areas index.new ports.new page0.now page1.now) o result ≡
         ended_by (paper o s.at)
-        (meaning (worded indexLine n) (state_after (areas index.old ports.old page0.now page1.now) s)) }
+        (meaning (worded index_line n) (state_after (areas index.old ports.old page0.now page1.now) s)) }
 {
     let u = s.setup;
     let ok = both(n.good, u.stage == PORT);

@@ -1,4 +1,4 @@
--- `Group::read_vector_lem` meets its contract: the bit that `highest_bit` names is the definition's, it is set, so it can be taken off,
+-- `Group::read_vector` meets its contract: the bit that `highest_bit` names is the definition's, it is set, so it can be taken off,
 -- and a word with that bit alone fits. Assumes nothing.
 use mathlib.Core.Path.{sym, subst, ap, ◌∙◌}
 use native.Mathlib.Omega.{arith}

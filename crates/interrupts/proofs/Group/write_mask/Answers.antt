@@ -1,4 +1,4 @@
--- `Group::write_mask_lem` meets its contract: the definition settles the same group as the code does. Assumes nothing.
+-- `Group::write_mask` meets its contract: the definition settles the same group as the code does. Assumes nothing.
 use Rattle.interrupts.specs.Group.{mask_written}
 use Rattle.interrupts.proofs.Group.write_mask.Goals as goal
 

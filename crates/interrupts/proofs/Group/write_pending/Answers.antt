@@ -1,4 +1,4 @@
--- `Group::write_pending_lem` meets its contract: the definition settles the same group as the code does. Assumes nothing.
+-- `Group::write_pending` meets its contract: the definition settles the same group as the code does. Assumes nothing.
 use Rattle.interrupts.specs.Group.{pending_written}
 use Rattle.interrupts.proofs.Group.write_pending.Goals as goal
 

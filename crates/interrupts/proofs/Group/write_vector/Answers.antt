@@ -1,4 +1,4 @@
--- `Group::write_vector_lem` meets its contract: the definition settles the same group as the code does. Assumes nothing.
+-- `Group::write_vector` meets its contract: the definition settles the same group as the code does. Assumes nothing.
 use Rattle.interrupts.specs.Group.{released}
 use Rattle.interrupts.proofs.Group.write_vector.Goals as goal
 
