@@ -9,8 +9,10 @@
 // words of document 01, and writes stdin and stdout.
 #![tactic(auto)]
 
-use libc::{STDIN_FILENO, STDOUT_FILENO};
+ghost use Rattle.std.specs.Prelude.{◌≤◌, length};
+
 use sequence::{BlockCheck, FrameChecks};
+use std::io::Read;
 
 // The length of the buffer. Where the input fills it, more of it may follow.
 const ROOM: usize = 65536;
@@ -19,7 +21,7 @@ const ROOM: usize = 65536;
 const KEPT: usize = 20;
 
 // A line as far as it was read: its whole words, as many as `count` says, and the word that its last digits begin, where it is open.
-#[derive(Drop)]
+#[derive(Clone, Copy)]
 struct Line {
     words: [u16; KEPT],
     count: usize,
@@ -27,58 +29,60 @@ struct Line {
     open: bool,
 }
 
-fn print(text: &[u8]) {
-    io::write_all(STDOUT_FILENO, text);
+// A write that fails is passed over: the answers that are missing show it.
+fn print(rt: &impl Print, text: &[u8]) {
+    let _ = rt.write_all(text);
 }
 
-fn print_byte(b: u8) {
-    io::print_hex(STDOUT_FILENO, b as u64, 2);
+// Two hexadecimal digits.
+fn print_byte(rt: &impl Print, b: u8) {
+    let _ = print!(rt; "{b:02x}");
 }
 
-fn print_block(answer: BlockCheck) {
-    print(b"block=");
+fn print_block(rt: &impl Print, answer: BlockCheck) {
+    print(rt, b"block=");
     match answer {
-        BlockCheck::Byte(b) => print_byte(b),
-        BlockCheck::Range => print(b"range"),
+        BlockCheck::Byte(b) => print_byte(rt, b),
+        BlockCheck::Range => print(rt, b"range"),
     }
 }
 
 // Check byte i of a frame, after a comma unless it is the first. The frame has `count` of them.
-fn print_check(i: usize, count: usize, b: u8) {
+fn print_check(rt: &impl Print, i: usize, count: usize, b: u8) {
     if count <= i {
         return;
     }
     if 0 < i {
-        print(b",");
+        print(rt, b",");
     }
-    print_byte(b);
+    print_byte(rt, b);
 }
 
-fn print_frame(answer: FrameChecks) {
+fn print_frame(rt: &impl Print, answer: FrameChecks) {
     let count = answer.count;
     let bytes = answer.bytes;
-    print(b" frame=");
+    print(rt, b" frame=");
     if count == 0 {
-        print(b"none");
+        print(rt, b"none");
     }
-    print_check(0, count, bytes[0]);
-    print_check(1, count, bytes[1]);
-    print_check(2, count, bytes[2]);
-    print_check(3, count, bytes[3]);
-    print(b"\n");
+    print_check(rt, 0, count, bytes[0]);
+    print_check(rt, 1, count, bytes[1]);
+    print_check(rt, 2, count, bytes[2]);
+    print_check(rt, 3, count, bytes[3]);
+    print(rt, b"\n");
 }
 
-fn answer(words: &[u16]) {
-    print_block(sequence::block_check(words));
-    print_frame(sequence::frame_checks(words));
+fn answer(rt: &impl Print, words: &[u16]) {
+    print_block(rt, sequence::block_check(words));
+    print_frame(rt, sequence::frame_checks(words));
 }
 
 // The first n of the words, or all where there are no more.
-fn answer_first(words: &[u16], n: usize) {
+fn answer_first(rt: &impl Print, words: &[u16], n: usize) {
     if n < words.len() {
-        answer(&words[0..n]);
+        answer(rt, &words[0..n]);
     } else {
-        answer(words);
+        answer(rt, words);
     }
 }
 
@@ -124,15 +128,15 @@ fn end_word(line: Line) -> Line {
     next
 }
 
-fn end_line(line: Line) {
+fn end_line(rt: &impl Print, line: Line) {
     let whole = end_word(line);
-    answer_first(&whole.words, whole.count);
+    answer_first(rt, &whole.words, whole.count);
 }
 
 // The line with one more byte of the input; a newline has it answered, and the next one is empty.
-fn feed(line: Line, b: u8) -> Line {
+fn feed(rt: &impl Print, line: Line, b: u8) -> Line {
     if b == b'\n' {
-        end_line(line);
+        end_line(rt, line);
         return empty_line();
     }
     let d = value(b);
@@ -143,21 +147,36 @@ fn feed(line: Line, b: u8) -> Line {
     }
 }
 
-fn answer_lines(text: &[u8]) {
+fn answer_lines(rt: &impl Print, text: &[u8]) {
     let mut line = empty_line();
     let mut i: usize = 0;
     while i < text.len() {
-        line = feed(line, text[i]);
+        line = feed(rt, line, text[i]);
         i += 1;
     }
 }
 
-fn main() {
-    let mut buffer = io::large_buffer();
-    let n = io::read_full(STDIN_FILENO, &mut buffer);
+// Reads until the buffer is full, the input ends or a read fails: how many bytes came, at the start of the buffer.
+fn read_full(input: &mut impl Read, buffer: &mut [u8]) -> usize
+    ensures { result ≤ length buffer.new }
+{
+    let mut done: usize = 0;
+    while done < buffer.len() {
+        match input.read(&mut buffer[done..]) {
+            Ok(0) => return done,
+            Ok(n) => done += n,
+            Err(_) => return done,
+        }
+    }
+    done
+}
+
+fn main(rt: HostRuntime) {
+    let mut buffer = [0u8; ROOM];
+    let n = read_full(&mut rt.stdin(), &mut buffer);
     if n == ROOM {
-        print(b"input too long\n");
+        print(&rt, b"input too long\n");
         return;
     }
-    answer_lines(&buffer[..n]);
+    answer_lines(&rt, &buffer[..n]);
 }

@@ -4,15 +4,14 @@
 // The file stdout is that listing. make.py works it out from G(x) alone, by long division, and the gate compares both.
 #![tactic(auto)]
 
-use libc::STDOUT_FILENO;
-
-fn print_entry(i: u8) {
-    io::print_hex(STDOUT_FILENO, sequence::step_at(i) as u64, 2);
-    io::write_all(STDOUT_FILENO, b"\n");
+// A write that fails is passed over: the entries that are missing show it.
+fn print_entry(rt: &impl Print, i: u8) {
+    let entry = sequence::step_at(i);
+    let _ = println!(rt; "{entry:02x}");
 }
 
-fn main() {
+fn main(rt: HostRuntime) {
     for i in 0..=255 {
-        print_entry(i);
+        print_entry(&rt, i);
     }
 }
