@@ -2,15 +2,21 @@
 // takes no arguments.
 #![tactic(auto)]
 
-use libc::{STDERR_FILENO, STDIN_FILENO, STDOUT_FILENO};
+use std::env::FillError;
+use std::rt::Env;
 
-fn main() {
-    if os::arg_count() > 1 {
-        io::write_all(
-            STDERR_FILENO,
-            b"port: no argument is taken; the input is standard input\n",
-        );
+// Whether there is an argument, of whatever length: its first byte is as much as is asked for.
+fn has_argument(rt: &impl Env) -> bool {
+    match rt.arg(1, &mut [0u8; 1]) {
+        Err(FillError::NotPresent) => false,
+        _ => true,
+    }
+}
+
+fn main(rt: HostRuntime) {
+    if has_argument(&rt) {
+        let _ = eprintln!(rt; "port: no argument is taken; the input is standard input");
         return;
     }
-    port_stream::serve(STDIN_FILENO, STDOUT_FILENO);
+    port_stream::serve(&rt, &mut rt.stdin(), &mut rt.stdout());
 }

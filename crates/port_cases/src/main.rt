@@ -4,26 +4,51 @@
 // No function here promises anything of its result; all are proved to be safe and to end.
 #![tactic(auto)]
 
-use libc::STDOUT_FILENO;
+use std::env::FillError;
+use std::io::Write;
+use std::rt::{Env, Files};
+use std::{fs, io, str};
 
-fn run_argument(i: usize) {
-    let mut path = io::buffer();
-    let n = os::arg(i, &mut path);
-    let fd = os::open_read(&path[..n]);
-    if fd < 0 {
-        os::fail(&path[..n]);
-        return;
+// The file of this name is one input.
+fn run_file(rt: &(impl Files + Print + Eprint), path: &str) {
+    match fs::open(rt, path) {
+        Ok(mut file) => {
+            let mut output = io::writer(rt);
+            port_stream::serve(rt, &mut file, &mut output);
+            let _ = output.write_all(b"--\n");
+        }
+        Err(error) => {
+            let _ = eprintln!(rt; "{path}: {error}");
+        }
     }
-    port_stream::serve(fd, STDOUT_FILENO);
-    io::write_all(STDOUT_FILENO, b"--\n");
-    libc::close(fd);
 }
 
-fn main() {
-    let count = os::arg_count();
-    let mut i: usize = 1;
-    while i < count {
-        run_argument(i);
-        i += 1;
+// Whether there is an argument i. If so, the file that it names is one input.
+fn run_argument(rt: &(impl Env + Files + Print + Eprint), i: usize) -> bool {
+    let mut path = [0u8; 4096];
+    match rt.arg(i, &mut path) {
+        Ok(n) => {
+            match str::from_utf8(&path[..n]) {
+                Ok(path) => run_file(rt, path),
+                Err(_) => {
+                    let _ = eprintln!(rt; "argument {i}: no file is named so");
+                }
+            }
+            true
+        }
+        Err(FillError::TooLong) => {
+            let _ = eprintln!(rt; "argument {i}: no file is named so");
+            true
+        }
+        Err(FillError::NotPresent) => false,
+    }
+}
+
+// The arguments end where one is not there.
+fn main(rt: HostRuntime) {
+    for i in 1..usize::MAX {
+        if !run_argument(&rt, i) {
+            return;
+        }
     }
 }

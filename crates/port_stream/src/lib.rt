@@ -1,22 +1,23 @@
-// The port program over file descriptors: the input is read in pieces as they come, and what is said of a piece is written before the next
+// The port program over a reader and a writer: the input is read in pieces as they come, and what is said of a piece is written before the next
 // one is waited for.
 //
-// Each function is proved to be safe and to end, given that each call of the system returns; none promises which bytes the system moved. What
+// Each function is proved to be safe and to end, given that each read and write returns; none promises which bytes were moved. What
 // is printed of pieces is the promise of the crate `port_run`; here they are only handed on.
 //
 // A read or a write that is interrupted, or that is not ready, is tried again, and a write that is taken in part is finished. One that fails is
 // told on standard error, and nothing more is printed: no report of the ports stands for an input that was not read to its end.
 #![tactic(auto)]
 
-ghost use Rattle.std.specs.Prelude.{◌≤◌, length};
+ghost use Rattle.std.specs.Prelude.{◌≤◌, length, IfOk};
 
-use libc::STDERR_FILENO;
 use logic::{both, either};
 use port_run::{Feed, pieces};
+use std::io::{self, ErrorKind, Read, Write};
+use std::thread;
 
 // How things stand after a piece, and whether another may come. After the end of the input, a refusal, or a read or write that failed, none
 // may; only where the input ended are the ports reported.
-#[derive(Drop)]
+#[derive(Clone, Copy)]
 struct Turn {
     feed: Feed,
     more: bool,
@@ -24,70 +25,82 @@ struct Turn {
 }
 
 // A call that moved nothing is tried again where it was interrupted, or where the other side is not ready, which may run first.
-fn is_again(got: isize) -> bool {
-    if got >= 0 {
-        return false;
+fn is_again(got: &io::Result<usize>) -> bool {
+    match got {
+        Ok(_) => false,
+        Err(error) => {
+            let kind = error.kind();
+            let again = either(kind == ErrorKind::WouldBlock, kind == ErrorKind::Interrupted);
+            if again {
+                thread::yield_now();
+            }
+            again
+        }
     }
-    let error = os::errno();
-    let again = either(error == libc::EAGAIN, error == libc::EINTR);
-    if again {
-        libc::sched_yield();
-    }
-    again
 }
 
-// Reads once, as soon as there is something to read: how many bytes came, 0 at the end of the input, -1 where the read fails.
-fn read_some(input: i32, piece: &mut [u8]) -> isize {
-    let mut got = libc::read(input, piece);
+// Reads once, as soon as there is something to read: how many bytes came, 0 at the end of the input, or why the read fails.
+fn read_some(input: &mut impl Read, piece: &mut [u8]) -> io::Result<usize>
+    ensures { IfOk result (λ n. n ≤ length piece.new) }
+{
+    let mut got = input.read(piece);
     let mut turns = u64::MAX;
-    while turns > 0 && is_again(got) {
-        got = libc::read(input, piece);
+    while turns > 0 && is_again(&got) {
+        got = input.read(piece);
         turns -= 1;
     }
     got
 }
 
-// Writes once, as soon as it can: how many bytes of the text were taken, 0 where the write fails.
-fn write_some(output: i32, text: &[u8]) -> usize
-    ensures { result ≤ length text.now }
+// Writes once, as soon as it can: how many bytes of the text were taken, or why the write fails.
+fn write_some(output: &mut impl Write, text: &[u8]) -> io::Result<usize>
+    ensures { IfOk result (λ n. n ≤ length text.now) }
 {
-    let mut put = libc::write(output, text);
+    let mut put = output.write(text);
     let mut turns = u64::MAX;
-    while turns > 0 && is_again(put) {
-        put = libc::write(output, text);
+    while turns > 0 && is_again(&put) {
+        put = output.write(text);
         turns -= 1;
     }
-    io::count(put, text)
+    put
+}
+
+// A line on standard error: what failed, and why. Where not even that can be written, nothing is left to say it to.
+fn fail(rt: &impl Eprint, what: &str, error: io::Error) {
+    let _ = eprintln!(rt; "port: {what}: {error}");
 }
 
 // Writes all of a text, or says why it cannot.
-fn write_whole(output: i32, text: &[u8]) -> bool {
+fn write_whole(rt: &impl Eprint, output: &mut impl Write, text: &[u8]) -> bool {
     let mut done: usize = 0;
     while done < text.len() {
-        let put = write_some(output, &text[done..]);
-        if put == 0 {
-            os::fail(b"port: standard output");
-            return false;
+        match write_some(output, &text[done..]) {
+            Ok(0) => {
+                fail(rt, "standard output", io::Error::from(ErrorKind::WriteZero));
+                return false;
+            }
+            Ok(put) => done += put,
+            Err(error) => {
+                fail(rt, "standard output", error);
+                return false;
+            }
         }
-        done += put;
     }
     true
 }
 
 // The first n bytes of a buffer, written, or why they are not.
-fn print(output: i32, out: &[u8], n: usize) -> bool {
+fn print(rt: &impl Eprint, output: &mut impl Write, out: &[u8], n: usize) -> bool {
     if n <= out.len() {
-        return write_whole(output, &out[0..n]);
+        return write_whole(rt, output, &out[0..n]);
     }
-    io::write_all(
-        STDERR_FILENO,
-        b"port: more was said than there is room for\n",
-    );
+    let _ = eprintln!(rt; "port: more was said than there is room for");
     false
 }
 
 // Works a piece, and writes what is said of it.
 fn work(
+    rt: &impl Eprint,
     index: &mut [u16],
     ports: &mut [u16],
     page0: &mut [u16],
@@ -95,11 +108,11 @@ fn work(
     line: &mut [u8],
     out: &mut [u8],
     f: Feed,
-    output: i32,
+    output: &mut impl Write,
     piece: &[u8],
 ) -> Turn {
     let g = pieces::feed(index, ports, page0, page1, line, out, f, piece);
-    let printed = print(output, out, g.stepped.at);
+    let printed = print(rt, output, out, g.stepped.at);
     Turn {
         feed: pieces::rewind(g),
         more: both(printed, g.stepped.refusal == 0),
@@ -109,6 +122,7 @@ fn work(
 
 // Reads a piece and works it.
 fn one_piece(
+    rt: &impl Eprint,
     index: &mut [u16],
     ports: &mut [u16],
     page0: &mut [u16],
@@ -116,50 +130,50 @@ fn one_piece(
     line: &mut [u8],
     out: &mut [u8],
     f: Feed,
-    input: i32,
-    output: i32,
+    input: &mut impl Read,
+    output: &mut impl Write,
 ) -> Turn {
-    let mut piece = io::buffer();
-    let got = read_some(input, &mut piece);
-    if got < 0 {
-        os::fail(b"port: standard input");
-        return Turn {
-            feed: f,
-            more: false,
-            ended: false,
-        };
-    }
-    if got == 0 {
-        return Turn {
+    let mut piece = [0u8; 4096];
+    match read_some(input, &mut piece) {
+        Err(error) => {
+            fail(rt, "standard input", error);
+            Turn {
+                feed: f,
+                more: false,
+                ended: false,
+            }
+        }
+        Ok(0) => Turn {
             feed: f,
             more: false,
             ended: true,
-        };
+        },
+        Ok(n) => work(
+            rt,
+            index,
+            ports,
+            page0,
+            page1,
+            line,
+            out,
+            f,
+            output,
+            &piece[..n],
+        ),
     }
-    let n = io::count(got, &piece);
-    work(
-        index,
-        ports,
-        page0,
-        page1,
-        line,
-        out,
-        f,
-        output,
-        &piece[..n],
-    )
 }
 
 // Piece after piece, as long as one may come.
 fn all_pieces(
+    rt: &impl Eprint,
     index: &mut [u16],
     ports: &mut [u16],
     page0: &mut [u16],
     page1: &mut [u16],
     line: &mut [u8],
     out: &mut [u8],
-    input: i32,
-    output: i32,
+    input: &mut impl Read,
+    output: &mut impl Write,
 ) -> Turn {
     let mut t = Turn {
         feed: pieces::begin(),
@@ -168,7 +182,7 @@ fn all_pieces(
     };
     let mut turns = u64::MAX;
     while turns > 0 && t.more {
-        t = one_piece(index, ports, page0, page1, line, out, t.feed, input, output);
+        t = one_piece(rt, index, ports, page0, page1, line, out, t.feed, input, output);
         turns -= 1;
     }
     t
@@ -176,20 +190,22 @@ fn all_pieces(
 
 // The ports, and nothing after a refusal.
 fn report<'a>(
+    rt: &impl Eprint,
     index: &[u16],
     ports: &[u16],
     page0: &'a [u16],
     page1: &'a [u16],
     out: &mut [u8],
     f: Feed,
-    output: i32,
+    output: &mut impl Write,
 ) {
     let n = pieces::finish(index, ports, page0, page1, out, f);
-    print(output, out, n);
+    print(rt, output, out, n);
 }
 
 // After the last piece: what is said of a line that lacks its newline, and then the ports.
 fn end(
+    rt: &impl Eprint,
     index: &mut [u16],
     ports: &mut [u16],
     page0: &mut [u16],
@@ -197,19 +213,19 @@ fn end(
     line: &mut [u8],
     out: &mut [u8],
     f: Feed,
-    output: i32,
+    output: &mut impl Write,
 ) {
     let g = pieces::close(index, ports, page0, page1, line, out, f);
-    let printed = print(output, out, g.stepped.at);
+    let printed = print(rt, output, out, g.stepped.at);
     if printed {
-        report(index, ports, page0, page1, out, pieces::rewind(g), output);
+        report(rt, index, ports, page0, page1, out, pieces::rewind(g), output);
     }
 }
 
 // Reads the input to its end and prints what is printed of it. The areas are cleared, and a line has at most 1,024 bytes. The output's buffer
 // has room for what 4,096 bytes of input may say (a reply of at most 128 bytes for each master frame of at least 11) and for 255 ports of at most
 // 180 bytes.
-pub fn serve(input: i32, output: i32) {
+pub fn serve(rt: &impl Eprint, input: &mut impl Read, output: &mut impl Write) {
     let mut index = [0u16; 4096];
     let mut ports = [0u16; 2048];
     let mut page0 = [0u16; 4096];
@@ -217,11 +233,11 @@ pub fn serve(input: i32, output: i32) {
     let mut line = [0u8; 1024];
     let mut out = [0u8; 49152];
     let t = all_pieces(
-        &mut index, &mut ports, &mut page0, &mut page1, &mut line, &mut out, input, output,
+        rt, &mut index, &mut ports, &mut page0, &mut page1, &mut line, &mut out, input, output,
     );
     if t.ended {
         end(
-            &mut index, &mut ports, &mut page0, &mut page1, &mut line, &mut out, t.feed, output,
+            rt, &mut index, &mut ports, &mut page0, &mut page1, &mut line, &mut out, t.feed, output,
         );
     }
 }
