@@ -5,7 +5,7 @@ use frames::Hearing;
 use model::Controller;
 
 // How many words of each area are lent: document 01's lengths, unless the script says otherwise.
-#[derive(Drop)]
+#[derive(Clone, Copy)]
 pub(crate) struct Lent {
     pub(crate) index: usize,
     pub(crate) ports: usize,
@@ -14,7 +14,7 @@ pub(crate) struct Lent {
 }
 
 // The controller, what each line hears, the last mark and the lengths.
-#[derive(Drop)]
+#[derive(Clone, Copy)]
 pub(crate) struct Desk {
     pub(crate) controller: Controller,
     pub(crate) a: Hearing,

@@ -15,42 +15,42 @@ fn is_slave(k: Kind) -> bool {
 }
 
 // Check byte i of a frame that has `ends` of them.
-fn check(i: usize, ends: usize, b: u8) {
+fn check(rt: &impl Print, i: usize, ends: usize, b: u8) {
     if i < ends {
-        say::named(b" ", b as u16);
+        say::named(rt, b" ", b as u16);
     }
 }
 
-fn each_word(words: [u16; 16], size: usize) {
+fn each_word(rt: &impl Print, words: [u16; 16], size: usize) {
     let n = least(size, 16);
-    say::each(&words[0..n]);
+    say::each(rt, &words[0..n]);
 }
 
-fn each_check(checks: [u8; 4], ends: usize) {
-    check(0, ends, checks[0]);
-    check(1, ends, checks[1]);
-    check(2, ends, checks[2]);
-    check(3, ends, checks[3]);
+fn each_check(rt: &impl Print, checks: [u8; 4], ends: usize) {
+    check(rt, 0, ends, checks[0]);
+    check(rt, 1, ends, checks[1]);
+    check(rt, 2, ends, checks[2]);
+    check(rt, 3, ends, checks[3]);
 }
 
-fn frame(h: Hearing) {
+fn frame(rt: &impl Print, h: Hearing) {
     let words = h.words;
     let checks = h.checks;
-    each_word(words, h.size);
-    say::text(b" /");
-    each_check(checks, h.ends);
+    each_word(rt, words, h.size);
+    say::text(rt, b" /");
+    each_check(rt, checks, h.ends);
 }
 
 // The refusal or 0, and the words and check bytes of the reply.
-fn answered(no: u16, reply: Hearing) {
+fn answered(rt: &impl Print, no: u16, reply: Hearing) {
     let kind = reply.kind;
-    say::named(b"hear ", no);
+    say::named(rt, b"hear ", no);
     if is_slave(kind) {
-        frame(reply);
+        frame(rt, reply);
     } else {
-        say::text(b" none");
+        say::text(rt, b" none");
     }
-    say::end();
+    say::end(rt);
 }
 
 // The last answer of the event, n times.
@@ -84,6 +84,7 @@ fn often(n: u32) -> u32 {
 }
 
 fn quiet(
+    rt: &impl Print,
     index: &[u16],
     ports: &mut [u16],
     page0: &[u16],
@@ -92,11 +93,12 @@ fn quiet(
     n: u32,
 ) -> Controller {
     let r = bus::calls::quiet(index, ports, page0, page1, c, n);
-    say::told(b"quiet ", r.refusal);
+    say::told(rt, b"quiet ", r.refusal);
     r.controller
 }
 
 pub(crate) fn run(
+    rt: &impl Print,
     index: &[u16],
     ports: &mut [u16],
     page0: &mut [u16],
@@ -107,11 +109,11 @@ pub(crate) fn run(
 ) -> Controller {
     if k == HEAR {
         let r = repeated(index, ports, page0, page1, d, often(n));
-        answered(r.refusal, r.reply);
+        answered(rt, r.refusal, r.reply);
         return r.controller;
     }
     if k == QUIET {
-        return quiet(index, ports, page0, page1, d.controller, n);
+        return quiet(rt, index, ports, page0, page1, d.controller, n);
     }
     d.controller
 }

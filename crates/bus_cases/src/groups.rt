@@ -27,12 +27,12 @@ fn read(c: Controller, g: u16, call: GroupCall) -> Reading {
 }
 
 // A reading is printed, a write is not.
-fn printed(k: usize, value: u16) {
+fn printed(rt: &impl Print, k: usize, value: u16) {
     if k == READSTATUS {
-        say::told(b"readstatus ", value);
+        say::told(rt, b"readstatus ", value);
     }
     if k == READVECTOR {
-        say::told(b"readvector ", value);
+        say::told(rt, b"readvector ", value);
     }
 }
 
@@ -43,14 +43,14 @@ fn is_active(c: Controller, g: u16) -> bool {
     if g == 1 { one.line() } else { zero.line() }
 }
 
-fn outgoing(c: Controller, k: usize, g: u16) {
+fn outgoing(rt: &impl Print, c: Controller, k: usize, g: u16) {
     if k == OUTGOING {
-        say::told(b"outgoing ", bit(is_active(c, g)));
+        say::told(rt, b"outgoing ", bit(is_active(c, g)));
     }
 }
 
-pub(crate) fn run(c: Controller, k: usize, g: u16, v: u16) -> Controller {
-    outgoing(c, k, g);
+pub(crate) fn run(rt: &impl Print, c: Controller, k: usize, g: u16, v: u16) -> Controller {
+    outgoing(rt, c, k, g);
     if k < READSTATUS {
         return c;
     }
@@ -58,6 +58,6 @@ pub(crate) fn run(c: Controller, k: usize, g: u16, v: u16) -> Controller {
         return c;
     }
     let r = read(c, g, call_of(k, v));
-    printed(k, r.value);
+    printed(rt, k, r.value);
     r.controller
 }

@@ -8,7 +8,7 @@ pub(crate) const KEPT: usize = 20;
 
 // The command is its number, 0 where there is none. `size` and `ends` count all numbers before and after the slash, also those not kept.
 // `name`, `number` and `digits` are of what is being read: a name, or a number where there was a digit.
-#[derive(Drop)]
+#[derive(Clone, Copy)]
 pub(crate) struct Line {
     pub(crate) command: usize,
     pub(crate) kind: u16,

@@ -21,6 +21,8 @@
 // be safe and to end.
 #![tactic(auto)]
 
+ghost use Rattle.std.specs.Prelude.{◌≤◌, length};
+
 mod bits;
 mod desk;
 mod events;
@@ -37,17 +39,32 @@ mod settings;
 mod show;
 mod step;
 
-use libc::STDIN_FILENO;
+use std::io::Read;
 
 // The length of the buffer; make.py reads it here. Where the input fills it, more of it may follow.
 const ROOM: usize = 262144;
 
-fn main() {
+// Reads until the buffer is full, the input ends or a read fails: how many bytes came, at the start of the buffer.
+fn read_full(input: &mut impl Read, buffer: &mut [u8]) -> usize
+    ensures { result ≤ length buffer.new }
+{
+    let mut done: usize = 0;
+    while done < buffer.len() {
+        match input.read(&mut buffer[done..]) {
+            Ok(0) => return done,
+            Ok(n) => done += n,
+            Err(_) => return done,
+        }
+    }
+    done
+}
+
+fn main(rt: HostRuntime) {
     let mut buffer = [0u8; ROOM];
-    let n = io::read_full(STDIN_FILENO, &mut buffer);
+    let n = read_full(&mut rt.stdin(), &mut buffer);
     if n == ROOM {
-        say::text(b"input too long\n");
+        say::text(&rt, b"input too long\n");
         return;
     }
-    script::run(&buffer[..n]);
+    script::run(&rt, &buffer[..n]);
 }

@@ -30,16 +30,17 @@ fn open_or_close(
 }
 
 // What opening or closing answered.
-fn told(k: usize, no: u16) {
+fn told(rt: &impl Print, k: usize, no: u16) {
     if k == OPEN {
-        say::told(b"open ", no);
+        say::told(rt, b"open ", no);
     } else {
-        say::told(b"close ", no);
+        say::told(rt, b"close ", no);
     }
 }
 
 // The words are the line's numbers but the first.
 fn write(
+    rt: &impl Print,
     index: &[u16],
     ports: &mut [u16],
     page0: &mut [u16],
@@ -52,15 +53,24 @@ fn write(
         return;
     }
     let no = host_ports::calls::write(index, ports, page0, page1, w[0], &w[1..n]);
-    say::told(b"write ", no);
+    say::told(rt, b"write ", no);
 }
 
-fn read<'a>(index: &[u16], ports: &[u16], page0: &'a [u16], page1: &'a [u16], k: usize, a: u16) {
+fn read<'a>(
+    rt: &impl Print,
+    index: &[u16],
+    ports: &[u16],
+    page0: &'a [u16],
+    page1: &'a [u16],
+    k: usize,
+    a: u16,
+) {
     if k == ASK {
-        say::answer(host_ports::calls::ask(index, ports, a));
+        say::answer(rt, host_ports::calls::ask(index, ports, a));
     }
     if k == FETCH {
         say::words(
+            rt,
             b"fetch",
             host_ports::calls::fetch(index, ports, page0, page1, a),
         );
@@ -68,6 +78,7 @@ fn read<'a>(index: &[u16], ports: &[u16], page0: &'a [u16], page1: &'a [u16], k:
 }
 
 pub(crate) fn run(
+    rt: &impl Print,
     index: &mut [u16],
     ports: &mut [u16],
     page0: &mut [u16],
@@ -77,12 +88,12 @@ pub(crate) fn run(
     let k = l.command;
     let w = l.words;
     if k == WRITE {
-        write(index, ports, page0, page1, w, l.size);
+        write(rt, index, ports, page0, page1, w, l.size);
         return;
     }
     if either(k == OPEN, k == CLOSE) {
-        told(k, open_or_close(index, ports, page0, page1, k, w));
+        told(rt, k, open_or_close(index, ports, page0, page1, k, w));
         return;
     }
-    read(index, ports, page0, page1, k, w[0]);
+    read(rt, index, ports, page0, page1, k, w[0]);
 }

@@ -28,10 +28,10 @@ fn is_comment(s: &[u8]) -> bool {
     s[0] == b'#'
 }
 
-fn comment(s: &[u8]) {
+fn comment(rt: &impl Print, s: &[u8]) {
     if is_comment(s) {
-        say::text(s);
-        say::end();
+        say::text(rt, s);
+        say::end(rt);
     }
 }
 
@@ -43,7 +43,7 @@ fn command(s: &[u8]) -> Line {
     line_of(s)
 }
 
-pub(crate) fn run(text: &[u8]) {
+pub(crate) fn run(rt: &impl Print, text: &[u8]) {
     let mut index = [0u16; INDEX];
     let mut ports = [0u16; PORTS];
     let mut page0 = [0u16; PAGE];
@@ -53,7 +53,7 @@ pub(crate) fn run(text: &[u8]) {
     while at < text.len() {
         let end = at + line_length(&text[at..]);
         let s = &text[at..end];
-        comment(s);
+        comment(rt, s);
         let l = command(s);
         if l.command == BEGIN {
             index = [0; INDEX];
@@ -62,7 +62,7 @@ pub(crate) fn run(text: &[u8]) {
             page1 = [0; PAGE];
             d = fresh();
         }
-        d = step(&mut index, &mut ports, &mut page0, &mut page1, d, l);
+        d = step(rt, &mut index, &mut ports, &mut page0, &mut page1, d, l);
         at = end + 1;
     }
 }

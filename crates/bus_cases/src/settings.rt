@@ -4,17 +4,25 @@ use crate::say;
 use host_controller::Told;
 use model::Controller;
 
-fn told(what: &[u8], t: Told) -> Controller {
-    say::told(what, t.refusal);
+fn told(rt: &impl Print, what: &[u8], t: Told) -> Controller {
+    say::told(rt, what, t.refusal);
     t.controller
 }
 
-fn with_range(c: Controller, k: usize, n: u16) -> Controller {
+fn with_range(rt: &impl Print, c: Controller, k: usize, n: u16) -> Controller {
     if k == ADDRESS {
-        return told(b"address ", host_controller::settings::set_address(c, n));
+        return told(
+            rt,
+            b"address ",
+            host_controller::settings::set_address(c, n),
+        );
     }
     if k == REPLY {
-        return told(b"reply ", host_controller::settings::set_reply_time(c, n));
+        return told(
+            rt,
+            b"reply ",
+            host_controller::settings::set_reply_time(c, n),
+        );
     }
     c
 }
@@ -42,6 +50,6 @@ fn others(c: Controller, k: usize, n: u16) -> Controller {
     c
 }
 
-pub(crate) fn run(c: Controller, k: usize, n: u16) -> Controller {
-    others(of_lines(with_range(c, k, n), k, n == 1), k, n)
+pub(crate) fn run(rt: &impl Print, c: Controller, k: usize, n: u16) -> Controller {
+    others(of_lines(with_range(rt, c, k, n), k, n == 1), k, n)
 }

@@ -40,50 +40,53 @@ fn whole(index: &[u16], ports: &[u16], page0: &[u16], page1: &[u16], c: Controll
 }
 
 // The name of what begins with number i of a controller.
-fn label(i: usize) {
+fn label(rt: &impl Print, i: usize) {
     match i {
-        0 => say::text(b" exchange"),
-        2 => say::text(b" times"),
-        6 => say::text(b" lines"),
-        10 => say::text(b" counts"),
-        12 | 16 => say::text(b" group"),
-        20 => say::text(b" device"),
-        23 => say::text(b" phase"),
+        0 => say::text(rt, b" exchange"),
+        2 => say::text(rt, b" times"),
+        6 => say::text(rt, b" lines"),
+        10 => say::text(rt, b" counts"),
+        12 | 16 => say::text(rt, b" group"),
+        20 => say::text(rt, b" device"),
+        23 => say::text(rt, b" phase"),
         _ => {}
     }
 }
 
-fn labelled(n: &[u16]) {
+fn labelled(rt: &impl Print, n: &[u16]) {
     let mut i: usize = 0;
     while i < n.len() {
-        label(i);
-        say::named(b" ", n[i]);
+        label(rt, i);
+        say::named(rt, b" ", n[i]);
         i += 1;
     }
 }
 
-fn state(c: Controller) {
+fn state(rt: &impl Print, c: Controller) {
     let n = numbers_of(c);
-    say::text(b"state");
-    labelled(&n);
-    say::end();
+    say::text(rt, b"state");
+    labelled(rt, &n);
+    say::end(rt);
 }
 
-fn port(index: &[u16], ports: &[u16], a: u16) {
+fn port(rt: &impl Print, index: &[u16], ports: &[u16], a: u16) {
     let e = get(index, a as usize);
     let w = get_port(ports, e);
-    say::named(b"port ", e);
-    say::each(&[
-        w.master,
-        w.flags,
-        w.interrupt,
-        w.fills,
-        w.limit,
-        w.age,
-        w.sixth,
-        w.seventh,
-    ]);
-    say::end();
+    say::named(rt, b"port ", e);
+    say::each(
+        rt,
+        &[
+            w.master,
+            w.flags,
+            w.interrupt,
+            w.fills,
+            w.limit,
+            w.age,
+            w.sixth,
+            w.seventh,
+        ],
+    );
+    say::end(rt);
 }
 
 // Port p's words of a page, as far as there are any.
@@ -98,39 +101,40 @@ fn part(page: &[u16], p: u16) -> &[u16] {
     }
 }
 
-fn pages(index: &[u16], page0: &[u16], page1: &[u16], a: u16) {
+fn pages(rt: &impl Print, index: &[u16], page0: &[u16], page1: &[u16], a: u16) {
     let p = get(index, a as usize);
-    say::text(b"pages");
-    say::each(part(page0, p));
-    say::text(b" /");
-    say::each(part(page1, p));
-    say::end();
+    say::text(rt, b"pages");
+    say::each(rt, part(page0, p));
+    say::text(rt, b" /");
+    say::each(rt, part(page1, p));
+    say::end(rt);
 }
 
-fn area(s: &[u16]) {
-    say::text(b" ");
-    say::number(sum(0, s));
+fn area(rt: &impl Print, s: &[u16]) {
+    say::text(rt, b" ");
+    say::number(rt, sum(0, s));
 }
 
-fn areas(index: &[u16], ports: &[u16], page0: &[u16], page1: &[u16]) {
-    say::text(b"areas");
-    area(index);
-    area(ports);
-    area(page0);
-    area(page1);
-    say::end();
+fn areas(rt: &impl Print, index: &[u16], ports: &[u16], page0: &[u16], page1: &[u16]) {
+    say::text(rt, b"areas");
+    area(rt, index);
+    area(rt, ports);
+    area(rt, page0);
+    area(rt, page1);
+    say::end(rt);
 }
 
-fn compared(mark: u64, now: u64) {
+fn compared(rt: &impl Print, mark: u64, now: u64) {
     if mark == now {
-        say::text(b"same\n");
+        say::text(rt, b"same\n");
     } else {
-        say::text(b"changed\n");
+        say::text(rt, b"changed\n");
     }
 }
 
 // What command k wants shown, of address a; and the mark, which a line `mark` sets anew.
 pub(crate) fn run(
+    rt: &impl Print,
     index: &[u16],
     ports: &[u16],
     page0: &[u16],
@@ -141,19 +145,19 @@ pub(crate) fn run(
 ) -> u64 {
     let c = d.controller;
     if k == STATE {
-        state(c);
+        state(rt, c);
     }
     if k == PORT {
-        port(index, ports, a);
+        port(rt, index, ports, a);
     }
     if k == PAGES {
-        pages(index, page0, page1, a);
+        pages(rt, index, page0, page1, a);
     }
     if k == AREAS {
-        areas(index, ports, page0, page1);
+        areas(rt, index, ports, page0, page1);
     }
     if k == SAME {
-        compared(d.mark, whole(index, ports, page0, page1, c));
+        compared(rt, d.mark, whole(index, ports, page0, page1, c));
     }
     if k == MARK {
         return whole(index, ports, page0, page1, c);

@@ -45,13 +45,13 @@ fn damage(area: &mut [u16], wanted: bool, w: [u16; KEPT]) {
 }
 
 // What the line changes of the desk but the mark, before any call is made.
-fn told(d: Desk, l: Line) -> Desk {
+fn told(rt: &impl Print, d: Desk, l: Line) -> Desk {
     let k = l.command;
     let w = l.words;
     let a = heard(d.a, A, l);
     let b = heard(d.b, B, l);
     let lent = lengths(d.lent, k, w);
-    let controller = groups::run(settings::run(d.controller, k, w[0]), k, w[0], w[1]);
+    let controller = groups::run(rt, settings::run(rt, d.controller, k, w[0]), k, w[0], w[1]);
     Desk {
         controller,
         a,
@@ -62,6 +62,7 @@ fn told(d: Desk, l: Line) -> Desk {
 }
 
 pub(crate) fn step(
+    rt: &impl Print,
     index: &mut [u16; INDEX],
     ports: &mut [u16; PORTS],
     page0: &mut [u16; PAGE],
@@ -73,10 +74,10 @@ pub(crate) fn step(
     let w = l.words;
     damage(index, k == ENTRY, w);
     damage(ports, k == WORD, w);
-    let mut d = told(before, l);
-    let c = calls(index, ports, page0, page1, d, l);
+    let mut d = told(rt, before, l);
+    let c = calls(rt, index, ports, page0, page1, d, l);
     d.controller = c;
-    let mark = show::run(index, ports, page0, page1, d, k, w[0]);
+    let mark = show::run(rt, index, ports, page0, page1, d, k, w[0]);
     d.mark = mark;
     d
 }
