@@ -30,7 +30,10 @@ fn is_again(got: &io::Result<usize>) -> bool {
         Ok(_) => false,
         Err(error) => {
             let kind = error.kind();
-            let again = either(kind == ErrorKind::WouldBlock, kind == ErrorKind::Interrupted);
+            let again = either(
+                kind == ErrorKind::WouldBlock,
+                kind == ErrorKind::Interrupted,
+            );
             if again {
                 thread::yield_now();
             }
@@ -182,7 +185,9 @@ fn all_pieces(
     };
     let mut turns = u64::MAX;
     while turns > 0 && t.more {
-        t = one_piece(rt, index, ports, page0, page1, line, out, t.feed, input, output);
+        t = one_piece(
+            rt, index, ports, page0, page1, line, out, t.feed, input, output,
+        );
         turns -= 1;
     }
     t
@@ -218,7 +223,16 @@ fn end(
     let g = pieces::close(index, ports, page0, page1, line, out, f);
     let printed = print(rt, output, out, g.stepped.at);
     if printed {
-        report(rt, index, ports, page0, page1, out, pieces::rewind(g), output);
+        report(
+            rt,
+            index,
+            ports,
+            page0,
+            page1,
+            out,
+            pieces::rewind(g),
+            output,
+        );
     }
 }
 
