@@ -16,7 +16,6 @@ use Rattle.model.specs.declared.Controller.{Controller}
 use Rattle.model.specs.Layout.{Areas}
 use Rattle.model.specs.Ports.{apply}
 use Rattle.model.specs.Lines.{lines, acts5, rule1, rule2, rule5}
-use Rattle.model.specs.Host.{controller}
 use Rattle.model.specs.Event.{World, world}
 use Rattle.model.specs.Quiet.{bus_timeout, line_timeout, times, since_later, expired, bus_silent, line_silent, is_some, lines_later}
 use Rattle.model.specs.Quiet.{pulse_effect, pulse_controller, pulse, pulses}

@@ -18,7 +18,7 @@ use Rattle.model.specs.declared.Controller.{Controller}
 use Rattle.model.specs.declared.Heard.{Heard}
 use Rattle.model.specs.declared.Heard.TheVariants.{Nothing, Unsound, Master, Reply, Stray}
 use Rattle.model.specs.declared.Times.{Times}
-use Rattle.model.specs.Event.{World, world, raise_all, when, heard_by, hear_controller}
+use Rattle.model.specs.Event.{World, raise_all, when, heard_by, hear_controller}
 use Rattle.model.proofs.Tables.{raised0, raised1, times_after}
 use Rattle.model.specs.Quiet.{bus_timeout, line_timeout, millisecond, times_later, is_some, bus_silent, due, pulse_controller, pulse, millisecond_ends}
 use Rattle.model.specs.Quiet.{grown_if, grown, tick, ticks}

@@ -1,7 +1,6 @@
 -- `cut::find` counts the bytes before the first b. The loop's invariant: the bytes passed and those that are still to be passed give all
 -- of them. Assumes nothing.
 use Rattle.std.proofs.lemmas.Bool.{eq-eqb, ne_eqb}
-use Prim.Native.Nat.{◌-◌}
 use Rattle.port_digits.proofs.Cutting.{until_here, until_on, until_end}
 use native.Mathlib.Omega.{arith}
 use borrow.Author.Rules.{rules}

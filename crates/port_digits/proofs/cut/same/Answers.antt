@@ -1,6 +1,5 @@
 -- `cut::same` compares two texts. The loop's invariant: what is left is the same exactly if all is. Assumes nothing.
 use Rattle.std.proofs.lemmas.Bool.{eq-eqb, ne_eqb}
-use Prim.Native.Nat.{◌-◌}
 use mathlib.Core.Path.{refl, sym, ◌∙◌}
 use mathlib.Core.Bool.{true, false}
 use Rattle.port_digits.proofs.Cutting.{same_longer, same_on, same_end}

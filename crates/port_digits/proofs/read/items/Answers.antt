@@ -1,6 +1,6 @@
 -- `read::items` reads a list of numbers. The loop's invariant: what is stored and told so far, with what is still to be read, is what is
 -- told of the whole. Assumes nothing.
-use Prim.Native.Nat.{◌+◌, ◌-◌}
+use Prim.Native.Nat.{◌+◌}
 use mathlib.Core.Path.{refl, sym, ◌∙◌, ap}
 use mathlib.Core.Bool.{false, true}
 use mathlib.Core.List.{[]}

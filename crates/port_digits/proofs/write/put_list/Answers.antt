@@ -1,8 +1,7 @@
 -- `write::put_list` writes its numbers one after the other. The loop's invariant: what is left, written after what stands there, gives
 -- the whole. Assumes nothing.
-use Prim.Native.Nat.{◌+◌, ◌-◌}
+use Prim.Native.Nat.{◌+◌}
 use mathlib.Core.Path.{refl, sym, ◌∙◌, ap}
-use mathlib.Core.Bool.{false}
 use lib.Dec.{ltb}
 use lib.ListN.{get_or, drop, drop_of_length-le}
 use Rattle.port_digits.specs.Write.{Paper, paper, onto, decimal, commas, commas_from}

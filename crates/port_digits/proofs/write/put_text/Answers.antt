@@ -1,6 +1,6 @@
 -- `write::put_text` writes its text byte by byte. The loop's invariant: what is left, written after what stands there, gives the whole.
 -- Assumes nothing.
-use Prim.Native.Nat.{◌+◌, ◌-◌}
+use Prim.Native.Nat.{◌+◌}
 use mathlib.Core.Path.{refl, sym, ◌∙◌, ap}
 use lib.ListN.{drop, drop_of_length-le}
 use Rattle.port_digits.specs.Write.{Paper, paper, onto}

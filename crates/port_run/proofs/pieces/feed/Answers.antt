@@ -1,6 +1,6 @@
 -- `pieces::feed` goes through a piece part by part. The loop's invariant: what is left of the rest, from here on, is what is left of the whole
 -- piece from its start. Assumes nothing.
-use Prim.Native.Nat.{ℕ, ◌-◌, ◌≤◌}
+use Prim.Native.Nat.{ℕ, ◌≤◌}
 use mathlib.Core.Path.{refl, ◌∙◌, ap}
 use mathlib.Core.List.{List}
 use native.Mathlib.Omega.{arith}

@@ -1,5 +1,4 @@
 -- `report::put_report` writes the open ports. The loop's invariant: those below the address are written. Assumes nothing.
-use Prim.Native.Nat.{◌-◌}
 use mathlib.Core.Path.{◌≡◌, refl}
 use Rattle.port_digits.specs.Write.{onto}
 use Rattle.port_digits.proofs.Pasting.{then}
