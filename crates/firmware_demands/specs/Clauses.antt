@@ -1,4 +1,4 @@
--- What each exported function of the crate `firmware` promises of one call, by the contract's own reading, with names for its arguments.
+-- What each function of the crate `firmware` that is exported promises of one call, by the contract's own reading, with names for its arguments.
 -- `Learnt` is what a caller learns, of the lifetimes κs, the arguments in their order, the result r, and what the call left of the
 -- arguments: so a line says what the promise says, and no more. Assumes nothing.
 use Rattle.std.specs.Prelude.{ℕ, Bool, ◌&&◌, List}

@@ -1,4 +1,4 @@
-// The three demands, said of what ships: of every call and every sequence of the exported calls of the crate `firmware`, each given the flat
+// The three demands, said of what ships: of every call and every sequence of the calls of the crate `firmware` that are exported, each given the flat
 // controller and the areas that the one before left, from `tolvendrum_reset` and cleared areas on. This crate has no function.
 //
 // specs/Clauses.antt has, for each exported function, what its contract says of one call; specs/Called.antt one exported call, and which
