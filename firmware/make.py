@@ -42,6 +42,12 @@ def constants(names, *path):
     return [(name, eval(found[name])) for name in names]
 
 
+def refusals():
+    """The refusals by name and number, in the order of their numbers: NoPort is NOPORT to C."""
+    body = re.search(r"fn from\(refusal: Refusal\) -> u16 \{(.*?)^    \}", read(CRATES, "constants", "src", "refusals.rt"), re.M | re.S).group(1)
+    return [(name.upper(), int(number)) for name, number in re.findall(r"Refusal::(\w+) => (\d+),", body)]
+
+
 def group_names(group):
     """The names of a group's bits, from bit 15 down, as (name, word); a bit that is not used is left out."""
     text = read(CRATES, "interrupts", "src", "names.rt")
@@ -182,7 +188,6 @@ def c_enum(pairs, form="%d"):
     yield "};"
 
 
-REFUSALS = ("AREA", "RANGE", "NOPORT", "TAKEN", "SIDE", "DAMAGED")
 AREAS = ("INDEX", "PORTS", "PAGE")
 FLAGS = ("VP", "EVER", "SRC", "SINK", "STO", "TERR", "CRC", "SQE", "ALO", "FIRST_BLOCK", "SECOND_BLOCK", "THIRD_BLOCK", "FOURTH_BLOCK")
 WORDS_OF_PORT = ("PORT_WORDS",)
@@ -204,7 +209,7 @@ STATUS_WORDS = (
 
 
 def c_numbers():
-    yield from c_enum(constants(REFUSALS, "constants", "src", "lib.rt"))
+    yield from c_enum(refusals())
     yield ""
     yield "/* The lengths of the areas, in words. All zero is a table of no ports. */"
     yield from c_enum([(name + "_LENGTH", value) for name, value in constants(AREAS, "constants", "src", "lib.rt")])
@@ -266,7 +271,7 @@ def rust_structs():
 
 
 def rust_numbers():
-    for name, value in constants(REFUSALS, "constants", "src", "lib.rt"):
+    for name, value in refusals():
         yield "pub const %s: u16 = %d;" % (name, value)
     yield ""
     for name, value in constants(AREAS, "constants", "src", "lib.rt"):

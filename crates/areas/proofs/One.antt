@@ -9,6 +9,8 @@ use Rattle.model.specs.Layout.{Areas, areas, words_at, flags_of, page_place}
 use Rattle.areas.specs.Lent.{valid_lent, Lies}
 use Rattle.areas.proofs.store.fill.Reads as fill-reads
 use Rattle.areas.proofs.port.valid_words.Reads as valid-words-reads
+use Rattle.areas.proofs.port.state_of.Reads as state-of-reads
+use Rattle.model.proofs.Asking.{one_shown}
 
 -- the areas as one record: where it is the same, so are port words, page 0 and page 1
 pub one_areas : {i j p q z y o x : List ℕ} {m : Areas} → areas i p z o ≡ m → areas j q y x ≡ m → (p ≡ q) × (z ≡ y) × (o ≡ x)
@@ -36,3 +38,7 @@ pub one_valid_words : (κs : _) (a : _) (r s : _) (e f : _) → valid-words-read
 one_valid_words κs a r s e f p q =
     let page = valid_lent a.1.0 a.1.1.0 (flags_of (words_at a.0.now a.1.1.1.0).flags) in
     (p.0 ∙ sym q.0, one_place r s page a.1.1.1.0 p.1 q.1)
+
+-- `state_of` answers one state.
+pub one_state_of : (κs : _) (a : _) (r s : _) (e f : _) → state-of-reads.Learnt κs a r e → state-of-reads.Learnt κs a s f → r ≡ s
+one_state_of κs a r s e f p q = one_shown r s (p ∙ sym q)

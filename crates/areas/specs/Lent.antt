@@ -1,8 +1,8 @@
 -- Document 01, "Memory lent to the calls": the four areas as a call is lent them. Assumes nothing.
 use Rattle.std.specs.Prelude.{ℕ, ◌<◌, ◌+◌, ◌*◌, ◌≡◌, Bool, true, false, cond, List, length}
 use Rattle.std.specs.Borrow.{Bor, MutBor}
-use Rattle.model.specs.declared.Answer.{Answer}
-use Rattle.model.specs.declared.Answer.TheVariants.{Never, Good, Held, Stale, Refused}
+use Rattle.model.specs.Answer.{Answer}
+use Rattle.model.specs.Answer.{Never, Good, Held, Stale, Refused}
 use Rattle.model.specs.declared.Flags.{Flags}
 use Rattle.model.specs.Layout.{Areas, areas, page_place}
 

@@ -10,11 +10,7 @@ use crate::{layout, port};
 fn older(age: u16, k: u32) -> u16
     ensures { result ≡ min oldest (age + k) }
 {
-    let left = constants::OLDEST - age;
-    if left as u32 <= k {
-        return constants::OLDEST;
-    }
-    age + k as u16
+    (age as u32).saturating_add(k).min(constants::OLDEST as u32) as u16
 }
 
 // Port p, a sink, k milliseconds later.
@@ -22,8 +18,7 @@ fn age_sink(ports: &mut [u16], p: u16, k: u32)
     ensures { ports.new ≡ with_words ports.old p (aged_words k (words_at ports.old p)) }
 {
     let w = layout::get_port(ports, p);
-    let ages = port::open_sink(w);
-    if ages {
+    if port::open_sink(w) {
         layout::put_age(ports, p, older(w.age, k));
     }
 }
@@ -32,21 +27,16 @@ fn age_sink(ports: &mut [u16], p: u16, k: u32)
 fn age_port(ports: &mut [u16], p: u16, k: u32)
     ensures { ports.new ≡ with_words ports.old p (aged_words k (words_at ports.old p)) }
 {
-    let sink = layout::sink_of(layout::get_flags(ports, p));
-    if sink {
+    if layout::sink_of(layout::get_flags(ports, p)) {
         age_sink(ports, p, k);
     }
 }
 
-// Ports 1 to 255, k milliseconds later. Three in a round, which their number allows, take less time than one.
+// Ports 1 to 255, k milliseconds later.
 pub fn age_ports(ports: &mut [u16], k: u32)
     ensures { ports.new ≡ aged_to 255 k ports.old }
 {
-    let mut n: u16 = 0;
-    while n < constants::LAST_PORT {
-        age_port(ports, n + 1, k);
-        age_port(ports, n + 2, k);
-        age_port(ports, n + 3, k);
-        n += 3;
+    for p in 1..=constants::LAST_PORT {
+        age_port(ports, p, k);
     }
 }

@@ -1,12 +1,14 @@
 // The areas' words (document 01, "Memory lent to the calls"). Every function is total: past the end of an area a word reads as 0, and a
 // store there does nothing.
+//
+// Here and above the areas come one by one and are no struct: C lends them so, with `&mut` for those alone that a call may change, and of a struct
+// that holds `&mut` every contract would have to say besides that each is still the same reference (tried: no plainer).
 ghost use Rattle.std.specs.Prelude.{◌≡◌, [], ◌≤◌, get_or, set};
 ghost use Rattle.model.specs.Layout.{areas, tables_fit, pages_fit, areas_fit, words_at, with_words, flags_of, worth, marks_number, word_of};
 ghost use Rattle.model.specs.Ports.{with_age};
 ghost use Rattle.areas.specs.Lent.{lent};
 
 use frames::Wrong;
-use logic::both;
 use model::{Faults, Flags, Words};
 
 // The word at i, 0 past the end.
@@ -29,27 +31,21 @@ pub fn put(s: &mut [u16], i: usize, v: u16)
 pub fn tables_fit(index: &[u16], ports: &[u16]) -> bool
     ensures { result ≡ tables_fit (areas index.now ports.now [] []) }
 {
-    both(
-        index.len() == constants::INDEX,
-        ports.len() == constants::PORTS,
-    )
+    index.len() == constants::INDEX && ports.len() == constants::PORTS
 }
 
 // Both pages have theirs.
 pub fn pages_fit(page0: &[u16], page1: &[u16]) -> bool
     ensures { result ≡ pages_fit (areas [] [] page0.now page1.now) }
 {
-    both(
-        page0.len() == constants::PAGE,
-        page1.len() == constants::PAGE,
-    )
+    page0.len() == constants::PAGE && page1.len() == constants::PAGE
 }
 
 // All four areas have theirs.
 pub fn fits(index: &[u16], ports: &[u16], page0: &[u16], page1: &[u16]) -> bool
     ensures { result ≡ areas_fit (lent index.entry ports.entry page0.entry page1.entry) }
 {
-    both(tables_fit(index, ports), pages_fit(page0, page1))
+    tables_fit(index, ports) && pages_fit(page0, page1)
 }
 
 // The eight words of port p.
@@ -134,7 +130,8 @@ pub fn flags_of(x: u16) -> Flags
 
 // A flag's part of the word.
 fn flag_part(b: bool, k: u16) -> u16
-    ensures { (result ≡ worth b k) × (result ≤ k) }
+    ensures worth { result ≡ worth b k }
+    ensures in_range { result ≤ k }
 {
     if b { k } else { 0 }
 }

@@ -6,10 +6,9 @@
 // is copied but the words of a fill.
 //
 // `layout` reads and writes the areas, `port` says what they tell of a port, `store` changes one, `age` is the walk over all of them.
-#![tactic(auto)]
+#![tactic(auto, unfolding(model::specs::Layout::tables_fit, model::specs::Layout::pages_fit, model::specs::Layout::areas_fit, model::specs::Layout::zero_bits, model::specs::Ports::well_formed, model::specs::Ports::open_sink, model::specs::Ports::seek, model::specs::Ports::size_of, model::specs::Ports::state_of, model::specs::Ports::marked_words, model::specs::Ports::filled_words))]
 
 pub mod age;
 pub mod layout;
-pub mod pick;
 pub mod port;
 pub mod store;

@@ -2,10 +2,10 @@
 // is total; the index table is not asked.
 ghost use Rattle.std.specs.Prelude.{◌≡◌, cond, []};
 ghost use Rattle.model.specs.Layout.{areas, words_at, with_words, with_part};
-ghost use Rattle.model.specs.Ports.{no_faults, turned, filled_words, marked_words, filled};
+ghost use Rattle.model.specs.Ports.{turned, filled_words, marked_words, filled};
 
 use crate::layout;
-use frames::no_wrong;
+use frames::NO_WRONG;
 use model::{Faults, Flags, Words};
 
 // The words to port p's part of a page, from its first word on; past the page's end nothing is stored.
@@ -13,17 +13,15 @@ pub fn copy(page: &mut [u16], p: u16, words: &[u16])
     ensures { page.new ≡ with_part page.old p words.now }
 {
     let at = constants::PAGE_WORDS * p as usize;
-    let mut i: usize = 0;
-    while i < words.len() {
-        layout::put(page, at + i, words[i]);
-        i += 1;
+    for (i, &word) in words.iter().enumerate() {
+        layout::put(page, at + i, word);
     }
 }
 
 // The words to the page that is not valid: page 0 where `one` says that page 1 is the valid one.
 fn copy_aside(page0: &mut [u16], page1: &mut [u16], one: bool, p: u16, words: &[u16])
-    ensures { (page0.new ≡ cond one (with_part page0.old p words.now) page0.old)
-        × (page1.new ≡ cond one page1.old (with_part page1.old p words.now)) }
+    ensures zero { page0.new ≡ cond one (with_part page0.old p words.now) page0.old }
+    ensures one { page1.new ≡ cond one page1.old (with_part page1.old p words.now) }
 {
     if one {
         copy(page0, p, words);
@@ -33,18 +31,14 @@ fn copy_aside(page0: &mut [u16], page1: &mut [u16], one: bool, p: u16, words: &[
 }
 
 // No status bit set.
-pub fn no_faults() -> Faults
-    ensures { result ≡ no_faults }
-{
-    Faults {
-        sto: false,
-        terr: false,
-        crc: false,
-        sqe: false,
-        alo: false,
-        wrong: no_wrong(),
-    }
-}
+pub const NO_FAULTS: Faults = Faults {
+    sto: false,
+    terr: false,
+    crc: false,
+    sqe: false,
+    alo: false,
+    wrong: NO_WRONG,
+};
 
 // VP turned, EVER set, the status bits cleared.
 fn turn(f: Flags) -> Flags
@@ -53,9 +47,8 @@ fn turn(f: Flags) -> Flags
     Flags {
         vp: !f.vp,
         ever: true,
-        src: f.src,
-        sink: f.sink,
-        faults: no_faults(),
+        faults: NO_FAULTS,
+        ..f
     }
 }
 
@@ -63,16 +56,11 @@ fn turn(f: Flags) -> Flags
 fn fill_words(w: Words) -> Words
     ensures { result ≡ filled_words w }
 {
-    let f = turn(layout::flags_of(w.flags));
     Words {
-        master: w.master,
-        flags: layout::word_of(f),
-        interrupt: w.interrupt,
-        fills: ((w.fills as u32 + 1) % constants::FILLS) as u16,
-        limit: w.limit,
+        flags: layout::word_of(turn(layout::flags_of(w.flags))),
+        fills: w.fills.wrapping_add(1),
         age: 0,
-        sixth: w.sixth,
-        seventh: w.seventh,
+        ..w
     }
 }
 
@@ -82,21 +70,22 @@ pub fn fill(ports: &mut [u16], page0: &mut [u16], page1: &mut [u16], p: u16, wor
         filled (areas [] ports.old page0.old page1.old) p words.now }
 {
     let w = layout::get_port(ports, p);
-    let f = layout::flags_of(w.flags);
-    copy_aside(page0, page1, f.vp, p, words);
-    let x = fill_words(w);
-    layout::put_port(ports, p, x);
+    copy_aside(page0, page1, layout::flags_of(w.flags).vp, p, words);
+    layout::put_port(ports, p, fill_words(w));
 }
 
 // Port words with other status bits.
 fn mark_words(w: Words, x: Faults) -> Words
     ensures { result ≡ marked_words w x }
 {
-    let mut f = layout::flags_of(w.flags);
-    f.faults = x;
-    let mut v = w;
-    v.flags = layout::word_of(f);
-    v
+    let f = Flags {
+        faults: x,
+        ..layout::flags_of(w.flags)
+    };
+    Words {
+        flags: layout::word_of(f),
+        ..w
+    }
 }
 
 // Only the status bits of port p change.
@@ -104,6 +93,5 @@ pub fn mark(ports: &mut [u16], p: u16, x: Faults)
     ensures { ports.new ≡ with_words ports.old p (marked_words (words_at ports.old p) x) }
 {
     let w = layout::get_port(ports, p);
-    let v = mark_words(w, x);
-    layout::put_port(ports, p, v);
+    layout::put_port(ports, p, mark_words(w, x));
 }

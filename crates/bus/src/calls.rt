@@ -1,5 +1,6 @@
 // The two calls.
-ghost use Rattle.std.specs.Prelude.{◌≡◌, []};
+ghost use Rattle.std.specs.Prelude.{◌≡◌, not, ◌||◌, [], Ok};
+ghost use Rattle.frames.specs.Hearing.{in_range};
 ghost use Rattle.model.specs.Layout.{areas};
 ghost use Rattle.model.specs.Event.{world};
 ghost use Rattle.model.specs.Quiet.{pulse, pulses};
@@ -12,69 +13,64 @@ use areas::age::age_ports;
 use areas::layout;
 use bus_events::{counts, heard, raised};
 use bus_lines::status::device_with;
-use bus_ports::frame::silent;
-use bus_ports::need::event_refusal;
+use bus_ports::frame::SILENT;
+use bus_ports::need::needed;
 use bus_ports::reply::meet_heard;
 use bus_ports::{found, take};
 use bus_quiet::{passing, phase, quiet};
-use constants::LAST_QUIET;
+use constants::{LAST_QUIET, Refusal};
 use frames::Hearing;
-use logic::either;
-use model::{Controller, Exchange, Heard, Lines, Sought};
+use model::{Controller, Exchange, Heard, Lines};
 
 // The controller after an event: each part by what was heard. Rule 3 finds the lines `l`.
 fn after(c: Controller, h: Heard, l: Lines, x: Exchange, interrupt: u16) -> Controller
     ensures { result ≡ after_with c h l x interrupt }
 {
-    let before = c.exchange;
-    let times = c.times;
-    let n = c.counts;
-    let g0 = c.group0;
-    let g1 = c.group1;
-    let device = c.device;
     Controller {
         exchange: x,
-        times: heard::times_after(times, h),
-        lines: bus_lines::rule3(heard::polls(device, h), l),
-        counts: counts::counts_after(n, h),
-        group0: raised::raise0(before, times, h, interrupt, g0),
-        group1: raised::raise1(n, h, g1),
-        device,
-        phase: c.phase,
+        times: heard::times_after(c.times, h),
+        lines: bus_lines::rule3(heard::polls(c.device, h), l),
+        counts: counts::counts_after(c.counts, h),
+        group0: raised::raise0(c.exchange, c.times, h, interrupt, c.group0),
+        group1: raised::raise1(c.counts, h, c.group1),
+        ..c
     }
 }
 
-// An event that is accepted, with what was sought for it: what was heard is met and taken. A status poll is told the lines as rule 3 finds
-// them.
+// An event that is accepted, with the port that was found for it. What was heard is met and taken. A status poll is told the lines as rule 3
+// finds them.
 fn accept(
     ports: &mut [u16],
     page0: &mut [u16],
     page1: &mut [u16],
     c: Controller,
-    s: Sought,
+    found: Option<u16>,
     h: Heard,
     t: Hearing,
     o: Hearing,
 ) -> Answered
-    ensures { as_outcome (areas [] ports.new page0.new page1.new) result ≡
-        accepted_with (world c (areas [] ports.old page0.old page1.old)) s h t o }
+    ensures { as_outcome c (areas [] ports.new page0.new page1.new) (Ok result) ≡
+        accepted_with (world c (areas [] ports.old page0.old page1.old)) found h t o }
 {
-    let x = c.exchange;
     let before = c.lines;
     let l = heard::lines_found(before, h, t, o);
     let d = c.device;
     let device = device_with(l, d);
-    let met = meet_heard(ports, page0, page1, device, found::port_of(s), x, h);
-    let sink = found::sink_of(ports, s);
+    let met = meet_heard(ports, page0, page1, device, found, c.exchange, h);
+    let sink = found::sink_of(ports, found);
     let interrupt = found::interrupt_at(ports, sink);
     take::take(ports, page0, page1, sink, h, t);
-    let next = met.exchange;
-    let reply = met.reply;
     Answered {
-        refusal: 0,
-        controller: after(c, h, l, next, interrupt),
-        reply,
+        controller: after(c, h, l, met.exchange, interrupt),
+        reply: met.reply,
     }
+}
+
+// A hearing is out of range.
+fn is_out(a: Hearing, b: Hearing) -> bool
+    ensures { result ≡ (not (in_range a) || not (in_range b)) }
+{
+    !frames::in_range(a) || !frames::in_range(b)
 }
 
 // A bus event: what line A and what line B heard. The trusted line is the one at the start of the event.
@@ -86,31 +82,20 @@ pub fn hear(
     c: Controller,
     a: Hearing,
     b: Hearing,
-) -> Answered
-    ensures { as_outcome (areas index.now ports.new page0.new page1.new) result ≡
+) -> Result<Answered, Refusal>
+    ensures { as_outcome c (areas index.now ports.new page0.new page1.new) result ≡
         outcome (hear a b) (world c (areas index.now ports.old page0.old page1.old)) }
 {
-    let l = c.lines;
-    let x = c.exchange;
-    let t = bus_lines::trusted(l, a, b);
-    let h = heard::heard(x, t);
-    let s = found::sought_heard(index, ports, h);
+    let t = bus_lines::trusted(c.lines, a, b);
+    let h = heard::heard(c.exchange, t);
     let fit = layout::fits(index, ports, page0, page1);
-    let out = either(!frames::in_range(a), !frames::in_range(b));
-    let no = event_refusal(fit, out, s);
-    let ok = no == 0;
-    if ok {
-        let o = bus_lines::observed(l, a, b);
-        return accept(ports, page0, page1, c, s, h, t, o);
-    }
-    Answered {
-        refusal: no,
-        controller: c,
-        reply: silent(),
-    }
+    let out = is_out(a, b);
+    let found = needed(fit, out, found::sought_heard(index, ports, h))?;
+    let o = bus_lines::observed(c.lines, a, b);
+    Ok(accept(ports, page0, page1, c, found, h, t, o))
 }
 
-// The rules of document 01 in one quiet bit time.
+// The rules of document 01 in one quiet bit time. Where what is sought is damaged there is no port of ours.
 fn pulse(
     index: &[u16],
     ports: &mut [u16],
@@ -121,10 +106,10 @@ fn pulse(
     ensures { world result (areas index.now ports.new page0.now page1.now) ≡
         pulse (world c (areas index.now ports.old page0.now page1.now)) }
 {
-    let x = c.exchange;
-    let t = c.times;
-    let s = found::sought_due(index, ports, quiet::due(x, t));
-    take::miss(ports, found::sink_of(ports, s));
+    let due = quiet::due(c.exchange, c.times);
+    let found = found::sought_due(index, ports, due).unwrap_or(None);
+    let sink = found::sink_of(ports, found);
+    take::miss(ports, sink);
     quiet::pulse_controller(c)
 }
 
@@ -170,11 +155,9 @@ fn grow(
         grown_by n (world c (areas index.now ports.old page0.now page1.now)) }
 {
     let k = phase::ends_within(n, c.phase);
-    let none = k == 0;
-    if none {
-        return phase::phase_later(n, c);
+    if k != 0 {
+        age_ports(ports, k);
     }
-    age_ports(ports, k);
     phase::phase_later(n, c)
 }
 
@@ -186,28 +169,16 @@ pub fn quiet(
     page1: &[u16],
     c: Controller,
     n: u32,
-) -> Answered
-    ensures { as_outcome (areas index.now ports.new page0.now page1.now) result ≡
+) -> Result<Answered, Refusal>
+    ensures { as_outcome c (areas index.now ports.new page0.now page1.now) result ≡
         outcome (quiet n) (world c (areas index.now ports.old page0.now page1.now)) }
 {
-    let x = c.exchange;
-    let t = c.times;
-    let d = quiet::due_within(n, x, t);
-    let s = found::sought_due(index, ports, d);
+    let due = quiet::due_within(n, c.exchange, c.times);
     let fit = layout::fits(index, ports, page0, page1);
-    let no = event_refusal(fit, LAST_QUIET < n, s);
-    let ok = no == 0;
-    if ok {
-        let passed = pass(index, ports, page0, page1, c, n);
-        return Answered {
-            refusal: 0,
-            controller: grow(index, ports, page0, page1, passed, n),
-            reply: silent(),
-        };
-    }
-    Answered {
-        refusal: no,
-        controller: c,
-        reply: silent(),
-    }
+    needed(fit, LAST_QUIET < n, found::sought_due(index, ports, due))?;
+    let passed = pass(index, ports, page0, page1, c, n);
+    Ok(Answered {
+        controller: grow(index, ports, page0, page1, passed, n),
+        reply: SILENT,
+    })
 }

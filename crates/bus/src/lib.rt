@@ -12,10 +12,10 @@ pub mod calls;
 use frames::Hearing;
 use model::Controller;
 
-// What a call answers: the number of a refusal or 0, the controller afterwards, and the reply as a line hears it, or silence.
+// What an accepted call answers: the controller afterwards, and the reply as a line hears it, or silence. A refused call leaves the controller
+// that it was given as it was.
 #[derive(Clone, Copy)]
 pub struct Answered {
-    pub refusal: u16,
     pub controller: Controller,
     pub reply: Hearing,
 }

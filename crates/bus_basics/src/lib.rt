@@ -1,5 +1,5 @@
-// What the crates of the bus have in common: a bit that is raised on an occasion, a status poll to our address, and the master word whose
-// reply time is reached. So none of them needs another.
+// What the crates of the bus have in common: a bit that is raised on an occasion, and a status poll to our address. So none of them needs
+// another.
 //
 // Each promise is an equation with a definition of the crate `model`. Nothing is asked of a caller.
 #![tactic(auto)]
@@ -9,15 +9,7 @@ ghost use Rattle.model.specs.Event.{raise_all, when, polls_us};
 
 use constants::{CODE_UNIT, STATUS_CODE};
 use interrupts::Group;
-use logic::both;
 use model::Device;
-
-// The master word whose reply time is reached, if one is.
-#[derive(Clone, Copy)]
-pub enum Due {
-    No,
-    Word(u16),
-}
 
 // The bits are raised on this occasion, and else nothing.
 pub fn raise_if(occasion: bool, bits: u16, g: Group) -> Group
@@ -30,5 +22,5 @@ pub fn raise_if(occasion: bool, bits: u16, g: Group) -> Group
 pub fn polls_us(d: Device, w: u16) -> bool
     ensures { result ≡ polls_us d w }
 {
-    both(w / CODE_UNIT == STATUS_CODE, w % CODE_UNIT == d.address)
+    w / CODE_UNIT == STATUS_CODE && w % CODE_UNIT == d.address
 }

@@ -1,146 +1,105 @@
-// A line of the script, read byte by byte. Whatever the bytes are, a line comes of them.
-use crate::bits::{low8, low16, more};
-use crate::names::{ALO, MASTER, NOISE, SLAVE, SQE, VIOLATION, number_of, with_letter};
-use logic::{either, pick};
+// A line of the script, token by token. Whatever the bytes are, a line comes of them.
+use arrayvec::ArrayVec;
+use bus_ports::frame::SILENT;
+use frames::{Hearing, Kind};
 
-// How many of a line's numbers before the slash are kept, the first ones: an address and more words than any port has.
-pub(crate) const KEPT: usize = 20;
+// A name of the script has at most eleven letters, so that one of which twelve are kept is none of them.
+type Name = ArrayVec<u8, 12>;
 
-// The command is its number, 0 where there is none. `size` and `ends` count all numbers before and after the slash, also those not kept.
-// `name`, `number` and `digits` are of what is being read: a name, or a number where there was a digit.
-#[derive(Clone, Copy)]
+// The name of the command, which is the line's first name. `numbers` are those before the slash, the first ones: an address, and more words than any
+// port has. `heard` counts all numbers before the slash and behind it, also those that it has no room for. `last` is the line's last number.
+#[derive(Drop)]
 pub(crate) struct Line {
-    pub(crate) command: usize,
-    pub(crate) kind: u16,
-    pub(crate) sqe: bool,
-    pub(crate) violation: bool,
-    pub(crate) alo: bool,
-    pub(crate) words: [u16; KEPT],
-    pub(crate) size: usize,
-    pub(crate) checks: [u8; 4],
-    pub(crate) ends: usize,
-    pub(crate) last: u32,
-    slash: bool,
-    name: u64,
-    number: u32,
-    digits: bool,
+    pub(crate) name: Name,
+    pub(crate) numbers: ArrayVec<u16, 20>,
+    pub(crate) heard: Hearing,
+    pub(crate) last: Option<u32>,
 }
 
-fn empty() -> Line {
-    Line {
-        command: 0,
-        kind: 0,
-        sqe: false,
-        violation: false,
-        alo: false,
-        words: [0; KEPT],
-        size: 0,
-        checks: [0; 4],
-        ends: 0,
-        last: 0,
-        slash: false,
-        name: 0,
-        number: 0,
-        digits: false,
+fn is_separator(byte: &u8) -> bool {
+    !matches!(*byte, b'a'..=b'z' | b'0'..=b'9')
+}
+
+impl Line {
+    pub(crate) fn read(text: &[u8]) -> Line {
+        let mut line = Line {
+            name: Name::new(),
+            numbers: ArrayVec::new(),
+            heard: SILENT,
+            last: None,
+        };
+        let mut halves = text.splitn(2, |byte| *byte == b'/');
+        if let Some(words) = halves.next() {
+            for token in words.split(is_separator) {
+                if let Some(number) = line.take(token) {
+                    line.add_word((number % 65536) as u16);
+                }
+            }
+        }
+        if let Some(checks) = halves.next() {
+            for token in checks.split(is_separator) {
+                if let Some(number) = line.take(token) {
+                    line.add_check((number % 256) as u8);
+                }
+            }
+        }
+        line
     }
-}
 
-fn add_letter(l: Line, b: u8) -> Line {
-    let mut next = l;
-    next.name = with_letter(l.name, b);
-    next
-}
-
-fn add_digit(l: Line, b: u8) -> Line {
-    let mut next = l;
-    let d = (b % 16) as u32;
-    next.number = l.number % 10000000 * 10 + d;
-    next.digits = true;
-    next
-}
-
-// A name behind the command: a kind or a quality mark.
-fn qualify(l: Line) -> Line {
-    let mut next = l;
-    let x = number_of(l.name);
-    next.kind = pick(x == NOISE, 1, l.kind);
-    next.kind = pick(x == MASTER, 2, next.kind);
-    next.kind = pick(x == SLAVE, 3, next.kind);
-    next.sqe = either(l.sqe, x == SQE);
-    next.violation = either(l.violation, x == VIOLATION);
-    next.alo = either(l.alo, x == ALO);
-    next.name = 0;
-    next
-}
-
-fn end_name(l: Line) -> Line {
-    if l.name == 0 {
-        return l;
+    // The number at this place, 0 where the line has none there.
+    pub(crate) fn number(&self, at: usize) -> u16 {
+        self.numbers.get(at).copied().unwrap_or(0)
     }
-    if l.command != 0 {
-        return qualify(l);
+
+    // Takes the name of a token, its letters, and gives its number: its digits, of which the last eight count.
+    fn take(&mut self, token: &[u8]) -> Option<u32> {
+        let mut name = Name::new();
+        let mut number = None;
+        for byte in token {
+            match *byte {
+                b'0'..=b'9' => {
+                    let before: u32 = number.unwrap_or(0);
+                    number = Some(before % 10_000_000 * 10 + u32::from(*byte - b'0'));
+                }
+                letter => {
+                    let _ = name.try_push(letter);
+                }
+            }
+        }
+        self.add_name(name);
+        self.last = number.or(self.last);
+        number
     }
-    let mut next = l;
-    next.command = number_of(l.name);
-    next.name = 0;
-    next
-}
 
-fn add_word(l: Line) -> Line {
-    let mut next = l;
-    let at = l.size;
-    if at < KEPT {
-        next.words[at] = low16(l.number);
+    // A name behind the command's is a kind or a quality mark.
+    fn add_name(&mut self, name: Name) {
+        if self.name.is_empty() {
+            self.name = name;
+            return;
+        }
+        match name.as_slice() {
+            b"noise" => self.heard.kind = Kind::Noise,
+            b"master" => self.heard.kind = Kind::Master,
+            b"slave" => self.heard.kind = Kind::Slave,
+            b"sqe" => self.heard.sqe = true,
+            b"violation" => self.heard.violation = true,
+            b"alo" => self.heard.alo = true,
+            _ => {}
+        }
     }
-    next.size = more(at);
-    next
-}
 
-fn add_check(l: Line) -> Line {
-    let mut next = l;
-    let at = l.ends;
-    if at < 4 {
-        next.checks[at] = low8(l.number);
+    fn add_word(&mut self, word: u16) {
+        let _ = self.numbers.try_push(word);
+        if let Some(place) = self.heard.words.get_mut(self.heard.size) {
+            *place = word;
+        }
+        self.heard.size = self.heard.size.saturating_add(1);
     }
-    next.ends = more(at);
-    next
-}
 
-fn add_number(l: Line) -> Line {
-    if l.slash { add_check(l) } else { add_word(l) }
-}
-
-fn end_number(l: Line) -> Line {
-    if !l.digits {
-        return l;
+    fn add_check(&mut self, check: u8) {
+        if let Some(place) = self.heard.checks.get_mut(self.heard.ends) {
+            *place = check;
+        }
+        self.heard.ends = self.heard.ends.saturating_add(1);
     }
-    let mut next = add_number(l);
-    next.last = l.number;
-    next.number = 0;
-    next.digits = false;
-    next
-}
-
-fn end_token(l: Line, b: u8) -> Line {
-    let mut next = end_number(end_name(l));
-    next.slash = either(next.slash, b == b'/');
-    next
-}
-
-fn feed(l: Line, b: u8) -> Line {
-    match b {
-        b'a'..=b'z' => add_letter(l, b),
-        b'0'..=b'9' => add_digit(l, b),
-        _ => end_token(l, b),
-    }
-}
-
-pub(crate) fn line_of(text: &[u8]) -> Line {
-    let mut l = empty();
-    let mut i: usize = 0;
-    while i < text.len() {
-        l = feed(l, text[i]);
-        i += 1;
-    }
-    end_token(l, b' ')
 }

@@ -21,50 +21,28 @@
 // be safe and to end.
 #![tactic(auto)]
 
-ghost use Rattle.std.specs.Prelude.{◌≤◌, length};
-
-mod bits;
+mod command;
 mod desk;
-mod events;
-mod groups;
-mod hearing;
-mod lent;
 mod line;
-mod names;
+mod memory;
 mod numbers;
-mod port_calls;
-mod say;
 mod script;
-mod settings;
 mod show;
-mod step;
+mod spaced;
 
-use std::io::Read;
+use arrayvec::ArrayVec;
+use std::io;
 
 // The length of the buffer; make.py reads it here. Where the input fills it, more of it may follow.
 const ROOM: usize = 262144;
 
-// Reads until the buffer is full, the input ends or a read fails: how many bytes came, at the start of the buffer.
-fn read_full(input: &mut impl Read, buffer: &mut [u8]) -> usize
-    ensures { result ≤ length buffer.new }
-{
-    let mut done: usize = 0;
-    while done < buffer.len() {
-        match input.read(&mut buffer[done..]) {
-            Ok(0) => return done,
-            Ok(n) => done += n,
-            Err(_) => return done,
-        }
-    }
-    done
-}
-
 fn main(rt: HostRuntime) {
-    let mut buffer = [0u8; ROOM];
-    let n = read_full(&mut rt.stdin(), &mut buffer);
-    if n == ROOM {
-        say::text(&rt, b"input too long\n");
+    let mut input = ArrayVec::<u8, ROOM>::new();
+    // Where a read fails, or the buffer is full, the buffer has what came until then.
+    let _ = io::copy(&mut rt.stdin(), &mut input);
+    if input.is_full() {
+        let _ = println!(rt; "input too long");
         return;
     }
-    script::run(&rt, &buffer[..n]);
+    script::run(&rt, input.as_slice());
 }

@@ -1,58 +1,45 @@
 // The controller as numbers, in the order in which they are printed.
-use crate::bits::bit;
 use model::{Controller, Exchange};
 
-// How many numbers a controller is.
-pub(crate) const NUMBERS: usize = 24;
-
-fn stage(x: Exchange) -> u16 {
-    match x {
-        Exchange::Idle => 0,
-        Exchange::Waiting(_) => 1,
-        Exchange::Done => 2,
-    }
-}
-
-fn awaited(x: Exchange) -> u16 {
-    match x {
-        Exchange::Idle => 0,
-        Exchange::Waiting(w) => w,
-        Exchange::Done => 0,
-    }
-}
-
-pub(crate) fn numbers_of(c: Controller) -> [u16; NUMBERS] {
-    let x = c.exchange;
-    let t = c.times;
-    let l = c.lines;
-    let n = c.counts;
-    let g = c.group0;
-    let h = c.group1;
-    let d = c.device;
+pub(crate) fn numbers_of(controller: Controller) -> [u16; 24] {
+    let (stage, awaited) = match controller.exchange {
+        Exchange::Idle => (0, 0),
+        Exchange::Waiting(word) => (1, word),
+        Exchange::Done => (2, 0),
+    };
+    let Controller {
+        times,
+        lines,
+        counts,
+        group0,
+        group1,
+        device,
+        ..
+    } = controller;
     [
-        stage(x),
-        awaited(x),
-        t.since,
-        t.line,
-        t.chosen,
-        t.adopted,
-        bit(l.laa),
-        bit(l.rld),
-        bit(l.ls),
-        bit(l.slm),
-        n.fc,
-        n.ec,
-        g.pending,
-        g.mask,
-        g.status,
-        bit(g.frozen),
-        h.pending,
-        h.mask,
-        h.status,
-        bit(h.frozen),
-        d.address,
-        bit(d.set),
-        d.status,
-        c.phase,
+        stage,
+        awaited,
+        times.since,
+        times.line,
+        times.chosen,
+        times.adopted,
+        u16::from(lines.laa),
+        u16::from(lines.rld),
+        u16::from(lines.ls),
+        u16::from(lines.slm),
+        counts.fc,
+        counts.ec,
+        group0.pending,
+        group0.mask,
+        group0.status,
+        u16::from(group0.frozen),
+        group1.pending,
+        group1.mask,
+        group1.status,
+        u16::from(group1.frozen),
+        device.address,
+        u16::from(device.status.is_some()),
+        device.status.unwrap_or(0),
+        controller.phase,
     ]
 }

@@ -4,22 +4,13 @@ ghost use Rattle.model.proofs.Tables.{is_counted, counts_after};
 ghost use Rattle.bus_events.specs.Counts.{unsound};
 
 use crate::heard::is_sound;
-use constants::LAST_EC;
-use logic::{both, pick};
 use model::{Counts, Heard};
-use std::num::wrapping_add_u16;
 
 // A frame was judged.
 pub fn is_counted(h: Heard) -> bool
     ensures { result ≡ is_counted h }
 {
-    match h {
-        Heard::Nothing => false,
-        Heard::Unsound => true,
-        Heard::Master(_) => true,
-        Heard::Reply(_, _) => true,
-        Heard::Stray => false, // not judged
-    }
+    matches!(h, Heard::Unsound | Heard::Master(_) | Heard::Reply(_, _))
 }
 
 // An unsound frame was judged.
@@ -27,11 +18,9 @@ fn unsound(h: Heard) -> bool
     ensures { result ≡ unsound h }
 {
     match h {
-        Heard::Nothing => false,
         Heard::Unsound => true,
-        Heard::Master(_) => false,
         Heard::Reply(_, j) => !is_sound(j),
-        Heard::Stray => false,
+        _ => false,
     }
 }
 
@@ -39,12 +28,16 @@ fn unsound(h: Heard) -> bool
 pub fn counts_after(n: Counts, h: Heard) -> Counts
     ensures { result ≡ counts_after n h }
 {
-    let mut m = n;
-    m.fc = pick(is_counted(h), wrapping_add_u16(n.fc, 1), n.fc);
-    m.ec = pick(
-        both(unsound(h), n.ec < LAST_EC),
-        wrapping_add_u16(n.ec, 1),
-        n.ec,
-    );
-    m
+    Counts {
+        fc: if is_counted(h) {
+            n.fc.wrapping_add(1)
+        } else {
+            n.fc
+        },
+        ec: if unsound(h) {
+            n.ec.saturating_add(1)
+        } else {
+            n.ec
+        },
+    }
 }

@@ -7,16 +7,14 @@ ghost use Rattle.frames.specs.Judge.{judged_master, is_sound};
 use bus_basics::polls_us;
 use constants::CODE_UNIT;
 use frames::{Hearing, Judgement, Kind};
-use logic::both;
 use model::{Device, Exchange, Heard, Lines, Times};
 
 // A master frame: its first word if it is sound.
 fn as_master(h: Hearing) -> Heard
     ensures { result ≡ as_master (judged_master h) h }
 {
-    let first = h.words[0];
     match frames::judge_master(h) {
-        Judgement::Sound => Heard::Master(first),
+        Judgement::Sound => Heard::Master(h.words[0]),
         Judgement::Unsound(_) => Heard::Unsound,
     }
 }
@@ -26,20 +24,18 @@ fn as_slave(x: Exchange, h: Hearing) -> Heard
     ensures { result ≡ as_slave x h }
 {
     match x {
-        Exchange::Idle => Heard::Stray,
         Exchange::Waiting(w) => Heard::Reply(w, frames::judge_slave(w / CODE_UNIT, h)),
-        Exchange::Done => Heard::Stray,
+        Exchange::Idle | Exchange::Done => Heard::Stray,
     }
 }
 
 // What the trusted line heard; its silence or noise is ignored.
+#[tactic(auto, unfolding(model::specs::Event::heard))]
 pub fn heard(x: Exchange, h: Hearing) -> Heard
     ensures { result ≡ heard x h }
 {
-    let k = h.kind;
-    match k {
-        Kind::Silence => Heard::Nothing,
-        Kind::Noise => Heard::Nothing,
+    match h.kind {
+        Kind::Silence | Kind::Noise => Heard::Nothing,
         Kind::Master => as_master(h),
         Kind::Slave => as_slave(x, h),
     }
@@ -49,10 +45,7 @@ pub fn heard(x: Exchange, h: Hearing) -> Heard
 pub fn is_sound(j: Judgement) -> bool
     ensures { result ≡ is_sound j }
 {
-    match j {
-        Judgement::Sound => true,
-        Judgement::Unsound(_) => false,
-    }
+    matches!(j, Judgement::Sound)
 }
 
 // A sound master frame restarts both counts, and adopts the chosen reply time.
@@ -60,16 +53,13 @@ pub fn times_after(t: Times, h: Heard) -> Times
     ensures { result ≡ times_after t h }
 {
     match h {
-        Heard::Nothing => t,
-        Heard::Unsound => t,
         Heard::Master(_) => Times {
             since: 0,
             line: 0,
-            chosen: t.chosen,
             adopted: t.chosen,
+            ..t
         },
-        Heard::Reply(_, _) => t,
-        Heard::Stray => t,
+        _ => t,
     }
 }
 
@@ -78,11 +68,9 @@ pub fn disturbs(h: Heard) -> bool
     ensures { result ≡ disturbs h }
 {
     match h {
-        Heard::Nothing => false,
         Heard::Unsound => true,
-        Heard::Master(_) => false,
-        Heard::Reply(w, j) => both(!is_sound(j), !bus_lines::exempt(w / CODE_UNIT)),
-        Heard::Stray => false,
+        Heard::Reply(w, j) => !is_sound(j) && !bus_lines::exempt(w / CODE_UNIT),
+        _ => false,
     }
 }
 
@@ -90,13 +78,7 @@ pub fn disturbs(h: Heard) -> bool
 pub fn polls(d: Device, h: Heard) -> bool
     ensures { result ≡ polls d h }
 {
-    match h {
-        Heard::Nothing => false,
-        Heard::Unsound => false,
-        Heard::Master(w) => polls_us(d, w),
-        Heard::Reply(_, _) => false,
-        Heard::Stray => false,
-    }
+    matches!(h, Heard::Master(w) if polls_us(d, w))
 }
 
 // Rules 1 and 4, in this order: the lines as rule 3 finds them. `l` are the lines at the start of the event.
@@ -104,10 +86,8 @@ pub fn lines_found(l: Lines, h: Heard, t: Hearing, o: Hearing) -> Lines
     ensures { result ≡ lines_found l h t o }
 {
     let unsound = disturbs(h);
-    let k = t.kind;
-    let poorer = both(
-        both(!bus_lines::acts1(unsound, l), bus_lines::is_frame(k)),
-        bus_lines::is_poor(o),
-    );
+    let poorer = !bus_lines::acts1(unsound, l)
+        && bus_lines::is_frame(t.kind)
+        && bus_lines::is_poor(o);
     bus_lines::rule4(poorer, bus_lines::rule1(unsound, l))
 }

@@ -8,29 +8,20 @@ use crate::counts::{counts_after, is_counted};
 use bus_basics::raise_if;
 use frames::Judgement;
 use interrupts::{Group, data_transfer, names};
-use logic::both;
 use model::{Counts, Exchange, Heard, Times};
 
 // Waiting with an equal word.
 fn waits_for(x: Exchange, w: u16) -> bool
     ensures { result ≡ waits_for x w }
 {
-    match x {
-        Exchange::Idle => false,
-        Exchange::Waiting(v) => v == w,
-        Exchange::Done => false,
-    }
+    matches!(x, Exchange::Waiting(v) if v == w)
 }
 
 // The exchange is done.
 fn is_done(x: Exchange) -> bool
     ensures { result ≡ is_done x }
 {
-    match x {
-        Exchange::Idle => false,
-        Exchange::Waiting(_) => false,
-        Exchange::Done => true,
-    }
+    matches!(x, Exchange::Done)
 }
 
 // A judged slave frame: ESF if it is unsound, else the interrupt of the port that it fills.
@@ -44,7 +35,8 @@ fn raise_reply(j: Judgement, interrupt: u16, g: Group) -> Group
 }
 
 // Group 0 after an event: EMF for an unsound master frame, DMF if a sound one finds an equal word waited for, SFC for a slave frame,
-// with DSF if we are done and less than the reply time has passed. `interrupt` is that of the sink that a reply answers for, 0 for none.
+// with DSF if we are done and less than the reply time has passed. `interrupt` is that of the sink that a reply answers for, 0 for none, as
+// the port's word has it.
 pub fn raise0(x: Exchange, t: Times, h: Heard, interrupt: u16, g: Group) -> Group
     ensures { result ≡ raise_all (bits0 x t h interrupt) g }
 {
@@ -54,7 +46,7 @@ pub fn raise0(x: Exchange, t: Times, h: Heard, interrupt: u16, g: Group) -> Grou
         Heard::Master(w) => raise_if(waits_for(x, w), names::DMF, g),
         Heard::Reply(_, j) => raise_reply(j, interrupt, g.raise(names::SFC)),
         Heard::Stray => raise_if(
-            both(is_done(x), t.since < t.adopted),
+            is_done(x) && t.since < t.adopted,
             names::DSF,
             g.raise(names::SFC),
         ),
@@ -65,6 +57,5 @@ pub fn raise0(x: Exchange, t: Times, h: Heard, interrupt: u16, g: Group) -> Grou
 pub fn raise1(n: Counts, h: Heard, g: Group) -> Group
     ensures { result ≡ raise_all (raised1 n h) g }
 {
-    let m = counts_after(n, h);
-    raise_if(both(is_counted(h), m.fc == 0), names::FEV, g)
+    raise_if(is_counted(h) && counts_after(n, h).fc == 0, names::FEV, g)
 }

@@ -4,23 +4,26 @@ ghost use Rattle.model.specs.Lines.{status_with};
 ghost use Rattle.model.specs.Event.{device_with};
 
 use constants::{STATUS_LAA, STATUS_RLD};
-use logic::pick;
 use model::{Device, Lines};
 
 // The status word with LAA and RLD at their places, over what the host wrote there. RLD stands right below LAA, so what is the host's lies
 // above LAA and below RLD.
+#[tactic(auto, unfolding(model::specs::Lines::status_with))]
 fn status_with(l: Lines, s: u16) -> u16
     ensures { result ≡ status_with l s }
 {
     let above = 2 * STATUS_LAA;
-    s / above * above + pick(l.laa, STATUS_LAA, 0) + pick(l.rld, STATUS_RLD, 0) + s % STATUS_RLD
+    let laa = if l.laa { STATUS_LAA } else { 0 };
+    let rld = if l.rld { STATUS_RLD } else { 0 };
+    s / above * above + laa + rld + s % STATUS_RLD
 }
 
 // Our device with these lines in its status word.
 pub fn device_with(l: Lines, d: Device) -> Device
     ensures { result ≡ device_with l d }
 {
-    let mut e = d;
-    e.status = status_with(l, d.status);
-    e
+    Device {
+        status: d.status.map(|s| status_with(l, s)),
+        ..d
+    }
 }

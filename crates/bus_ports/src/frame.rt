@@ -1,9 +1,21 @@
 // A reply as a line hears it.
 ghost use Rattle.std.specs.Prelude.{◌≡◌};
-ghost use Rattle.model.specs.Event.{sent, silent};
+ghost use Rattle.model.specs.Event.{sent};
 
 use areas::store;
 use frames::{Hearing, Kind};
+
+// No reply.
+pub const SILENT: Hearing = Hearing {
+    kind: Kind::Silence,
+    words: [0; 16],
+    size: 0,
+    checks: [0; 4],
+    ends: 0,
+    sqe: false,
+    violation: false,
+    alo: false,
+};
 
 // A slave frame of these words with its check bytes and no quality mark.
 pub fn sent(words: &[u16]) -> Hearing
@@ -19,24 +31,6 @@ pub fn sent(words: &[u16]) -> Hearing
         size: words.len(),
         checks,
         ends: f.count,
-        sqe: false,
-        violation: false,
-        alo: false,
-    }
-}
-
-// No reply.
-pub fn silent() -> Hearing
-    ensures { result ≡ silent }
-{
-    Hearing {
-        kind: Kind::Silence,
-        words: [0; 16],
-        size: 0,
-        checks: [0; 4],
-        ends: 0,
-        sqe: false,
-        violation: false,
-        alo: false,
+        ..SILENT
     }
 }

@@ -5,7 +5,7 @@
 // Promised for all inputs and every content of the areas: each answer and each area afterwards is that of a definition of the crate
 // `model`, or of one of specs/ here, of which proofs/ shows what it says of the model's. Nothing is asked of the caller. Nothing is copied
 // but the words of the frame that is taken or sent.
-#![tactic(auto)]
+#![tactic(auto, unfolding(model::specs::Event::silent, model::specs::Event::sent, model::specs::Layout::with_part, model::specs::Ports::apply, model::specs::Ports::standing_of, frames::specs::Hearing::words_of))]
 
 pub mod found;
 pub mod frame;

@@ -1,29 +1,24 @@
-// The refusals of bus events and quiet time: 1 AREA, 2 RANGE, 6 DAMAGED for the port that is needed.
-ghost use Rattle.std.specs.Prelude.{◌≡◌};
-ghost use Rattle.bus_ports.specs.Need.{is_damaged, event_refusal};
+// The refusals of bus events and quiet time.
+ghost use Rattle.std.specs.Prelude.{◌≡◌, IfOk, Ok};
+ghost use Rattle.constants.specs.Refusal.{told};
+ghost use Rattle.bus_ports.specs.Need.{event_refusal};
 
-use constants::{AREA, DAMAGED, RANGE};
-use logic::pick;
-use model::Sought;
+use constants::Refusal;
 
-// The entry that was sought is above 255, or its port words are not well formed.
-fn is_damaged(s: Sought) -> bool
-    ensures { result ≡ is_damaged s }
+// In the document's order: an area, an argument, and what was sought. The port that was found comes back, if one was.
+pub fn needed(
+    fits: bool,
+    out: bool,
+    sought: Result<Option<u16>, Refusal>,
+) -> Result<Option<u16>, Refusal>
+    ensures number { told result ≡ event_refusal fits out sought }
+    ensures found { IfOk result (λ found. sought ≡ Ok found) }
 {
-    match s {
-        Sought::Nothing => false,
-        Sought::Damaged => true,
-        Sought::Port(_) => false,
+    if !fits {
+        return Err(Refusal::Area);
     }
-}
-
-// In the document's order; s is what was sought.
-pub fn event_refusal(fits: bool, out: bool, s: Sought) -> u16
-    ensures { result ≡ event_refusal fits out s }
-{
-    pick(
-        !fits,
-        AREA,
-        pick(out, RANGE, pick(is_damaged(s), DAMAGED, 0)),
-    )
+    if out {
+        return Err(Refusal::Range);
+    }
+    sought
 }

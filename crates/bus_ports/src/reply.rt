@@ -4,21 +4,18 @@ ghost use Rattle.model.specs.Layout.{areas};
 ghost use Rattle.bus_ports.specs.Found.{source_at, standing_at, unanswered, answered, met_by, met_as};
 
 use crate::Met;
-use crate::frame::{sent, silent};
+use crate::frame::{SILENT, sent};
 use areas::{layout, port};
 use bus_basics::polls_us;
 use constants::CODE_UNIT;
-use frames::Expected;
-use logic::both;
 use model::{Device, Exchange, Heard};
 
 // Port p is a filled source.
 fn source_at(ports: &[u16], p: u16) -> bool
     ensures { result ≡ source_at ports.now p }
 {
-    let v = layout::get_port(ports, p);
-    let f = layout::flags_of(v.flags);
-    both(both(p != 0, !f.sink), f.ever)
+    let f = layout::flags_of(layout::get_flags(ports, p));
+    !f.sink && f.ever
 }
 
 // No reply of ours.
@@ -27,7 +24,7 @@ fn unanswered(x: Exchange) -> Met
 {
     Met {
         exchange: x,
-        reply: silent(),
+        reply: SILENT,
     }
 }
 
@@ -41,24 +38,28 @@ fn answered(words: &[u16]) -> Met
     }
 }
 
-// A sound master frame, with port p for its word. Codes 5, 6, 7, 10, 11: idle. A filled source replies its valid words, a status poll to
-// our address the status word, if the host set one: done. Otherwise waiting.
-fn meet<'a>(ports: &[u16], page0: &'a [u16], page1: &'a [u16], d: Device, p: u16, w: u16) -> Met
-    ensures { result ≡ met_by d (standing_at (areas [] ports.now page0.now page1.now) p) w }
+// A sound master frame, with the port that is open for its word. Codes 5, 6, 7, 10, 11: idle. A filled source replies its valid words, a status
+// poll to our address the status word, if the host set one: done. Otherwise waiting.
+fn meet<'a>(
+    ports: &[u16],
+    page0: &'a [u16],
+    page1: &'a [u16],
+    d: Device,
+    found: Option<u16>,
+    w: u16,
+) -> Met
+    ensures { result ≡ met_by d (standing_at (areas [] ports.now page0.now page1.now) found) w }
 {
-    let Expected::Words(_) = frames::reply_size(w / CODE_UNIT) else {
+    if frames::reply_size(w / CODE_UNIT).is_none() {
         return unanswered(Exchange::Idle);
-    };
-    let source = source_at(ports, p);
-    if source {
-        return answered(port::valid_words(ports, page0, page1, p));
     }
-    let own = both(polls_us(d, w), d.set);
-    if own {
-        let word = [d.status];
-        return answered(&word);
+    match found {
+        Some(p) if source_at(ports, p) => answered(port::valid_words(ports, page0, page1, p)),
+        _ => match d.status {
+            Some(status) if polls_us(d, w) => answered(&[status]),
+            _ => unanswered(Exchange::Waiting(w)),
+        },
     }
-    unanswered(Exchange::Waiting(w))
 }
 
 // The exchange after what was heard, and the reply, with the port that is open for the word.
@@ -67,17 +68,16 @@ pub fn meet_heard<'a>(
     page0: &'a [u16],
     page1: &'a [u16],
     d: Device,
-    p: u16,
+    found: Option<u16>,
     x: Exchange,
     h: Heard,
 ) -> Met
-    ensures { result ≡ met_as d (standing_at (areas [] ports.now page0.now page1.now) p) x h }
+    ensures { result ≡ met_as d (standing_at (areas [] ports.now page0.now page1.now) found) x h }
 {
     match h {
-        Heard::Nothing => unanswered(x),
+        Heard::Master(w) => meet(ports, page0, page1, d, found, w),
         Heard::Unsound => unanswered(Exchange::Idle),
-        Heard::Master(w) => meet(ports, page0, page1, d, p, w),
         Heard::Reply(_, _) => unanswered(Exchange::Done),
-        Heard::Stray => unanswered(x),
+        Heard::Nothing | Heard::Stray => unanswered(x),
     }
 }

@@ -1,15 +1,13 @@
 // What a judged slave frame, and a reply time that is reached, do to the areas.
-ghost use Rattle.std.specs.Prelude.{◌≡◌, []};
-ghost use Rattle.std.proofs.Math.Option.{some};
+ghost use Rattle.std.specs.Prelude.{◌≡◌, [], Some};
 ghost use Rattle.frames.specs.Hearing.{words_of};
 ghost use Rattle.model.specs.Layout.{areas};
-ghost use Rattle.model.specs.Ports.{standing_of, filled, reply_bad, reply_missing, apply};
+ghost use Rattle.model.specs.Ports.{standing_of, filled, reply_bad, apply};
 ghost use Rattle.model.specs.Event.{taken};
 ghost use Rattle.bus_ports.specs.Found.{standing_at, late_at, effect_by};
 
-use areas::store;
-use frames::{Hearing, Judgement, Wrong, any_wrong, no_wrong};
-use logic::least;
+use areas::store::{self, NO_FAULTS};
+use frames::{Hearing, Judgement, Wrong, any_wrong};
 use model::{Faults, Heard};
 
 // The words that were heard fill port p.
@@ -18,7 +16,7 @@ fn fill_heard(ports: &mut [u16], page0: &mut [u16], page1: &mut [u16], p: u16, h
         filled (areas [] ports.old page0.old page1.old) p (words_of h) }
 {
     let words = h.words;
-    let n = least(h.size, 16);
+    let n = h.size.min(words.len());
     store::fill(ports, page0, page1, p, &words[..n]);
 }
 
@@ -27,28 +25,20 @@ fn bad(wrong: Wrong, h: Hearing) -> Faults
     ensures { result ≡ reply_bad wrong h.sqe h.alo }
 {
     Faults {
-        sto: false,
         terr: true,
         crc: any_wrong(wrong),
         sqe: h.sqe,
         alo: h.alo,
         wrong,
+        ..NO_FAULTS
     }
 }
 
-// STO alone.
-fn late() -> Faults
-    ensures { result ≡ reply_missing }
-{
-    Faults {
-        sto: true,
-        terr: false,
-        crc: false,
-        sqe: false,
-        alo: false,
-        wrong: no_wrong(),
-    }
-}
+// STO alone: the reply did not come.
+const LATE: Faults = Faults {
+    sto: true,
+    ..NO_FAULTS
+};
 
 // A judged slave frame at port p: a sound one fills it, of an unsound one only the status bits change.
 fn store_reply(
@@ -60,7 +50,7 @@ fn store_reply(
     h: Hearing,
 )
     ensures { areas [] ports.new page0.new page1.new ≡
-        apply (taken (some (standing_of (areas [] ports.old page0.old page1.old) p)) j h)
+        apply (taken (Some (standing_of (areas [] ports.old page0.old page1.old) p)) j h)
         (areas [] ports.old page0.old page1.old) }
 {
     match j {
@@ -74,7 +64,7 @@ pub fn take(
     ports: &mut [u16],
     page0: &mut [u16],
     page1: &mut [u16],
-    sink: u16,
+    sink: Option<u16>,
     heard: Heard,
     h: Hearing,
 )
@@ -82,26 +72,16 @@ pub fn take(
         apply (effect_by (standing_at (areas [] ports.old page0.old page1.old) sink) heard h)
         (areas [] ports.old page0.old page1.old) }
 {
-    match heard {
-        Heard::Nothing => {}
-        Heard::Unsound => {}
-        Heard::Master(_) => {}
-        Heard::Reply(_, j) => {
-            let found = sink != 0;
-            if found {
-                store_reply(ports, page0, page1, sink, j, h);
-            }
-        }
-        Heard::Stray => {}
+    if let (Heard::Reply(_, j), Some(p)) = (heard, sink) {
+        store_reply(ports, page0, page1, p, j, h);
     }
 }
 
 // A reply that did not come: the sink that is open for the word gets STO alone among its status bits.
-pub fn miss(ports: &mut [u16], sink: u16)
+pub fn miss(ports: &mut [u16], sink: Option<u16>)
     ensures { ports.new ≡ late_at ports.old sink }
 {
-    let found = sink != 0;
-    if found {
-        store::mark(ports, sink, late());
+    if let Some(p) = sink {
+        store::mark(ports, p, LATE);
     }
 }

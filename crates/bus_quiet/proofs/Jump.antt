@@ -1,13 +1,9 @@
 -- The rules of quiet time all at once: bit times that surely bring nothing only make the times later, whatever the controller holds. By one
 -- bit time after the other, none of which reaches a timeout or lets a rule act. Assumes nothing.
-use Prim.Native.Nat.{ℕ, zero, suc, ◌+◌, ◌-◌, ◌≤◌, ◌<◌, min}
-use mathlib.Core.Path.{◌≡◌, refl, ◌∙◌, ap}
-use mathlib.Core.Bool.{Bool, true, false, cond, true≢false, and-false}
-use mathlib.Core.Option.{none, some}
-use native.Mathlib.Nat.{zero-add, add-zero, suc-add}
-use native.Mathlib.Omega.{arith}
-use lib.Dec.{leb, ltb}
-use borrow.Author.Tests.{le-ltb, lt-leb, leb-false, ne_eqb, ltb-false}
+use Rattle.std.proofs.Common.{ℕ, ◌+◌, ◌-◌, ◌≤◌, ◌<◌, ◌≡◌, ◌∙◌, Bool, None, Some, zero, suc, min, refl, ap, true, false, cond, true≢false}
+use Rattle.std.proofs.Common.{zero-add, add-zero, suc-add, arith, leb, ltb, le-ltb, leb-false, ne_eqb, ltb-false}
+use Rattle.std.proofs.Math.Bool.{and-false}
+use Rattle.std.proofs.lemmas.Bool.{lt-leb}
 use Rattle.model.specs.declared.Exchange.{Exchange}
 use Rattle.model.specs.declared.Exchange.TheVariants.{Idle, Waiting, Done}
 use Rattle.model.specs.declared.Times.{Times}
@@ -26,7 +22,7 @@ use Rattle.bus_quiet.proofs.BitTime.{one_later, pulses_suc}
 use Rattle.bus_quiet.proofs.Roll.{roll}
 
 -- rules 1, 2 and 5 without an occasion
-unmoved : (l : Lines) → acts5 l ≡ false → lines_later l none false ≡ l
+unmoved : (l : Lines) → acts5 l ≡ false → lines_later l None false ≡ l
 unfolding rule1 rule2 rule5
 unmoved l h = go l.laa l.rld l.ls l.slm h
   where
@@ -48,13 +44,13 @@ module _ (n : ℕ) (t : Times) where
   unfolding on
   next = one_later on ∙ omega arith
 
-  no_reply : (x : Exchange) → n < before_reply x t → expired x on ≡ none
+  no_reply : (x : Exchange) → n < before_reply x t → expired x on ≡ None
   unfolding on
   no_reply Idle h = refl
   no_reply (Waiting w) h = go (leb t.adopted (since_after line_timeout t.since)) refl h
     where
       go : (b : Bool) → leb t.adopted (since_after line_timeout t.since) ≡ b
-          → n < cond (is_some (cond b (some w) none)) (t.adopted - t.since - 1) line_timeout → expired (Waiting w) on ≡ none
+          → n < cond (is_some (cond b (Some w) None)) (t.adopted - t.since - 1) line_timeout → expired (Waiting w) on ≡ None
       go true e k = rw (lt-leb t.adopted (since_later on) (omega (arith, next)))
       go false e k =
           let h = leb-false t.adopted (since_after line_timeout t.since) e in

@@ -1,12 +1,9 @@
 -- The rules of quiet time to its end: where nothing but line timeouts is to come, any number of bit times passed at once. By one bit time after the
 -- other, which brings a line timeout or only later times. Assumes nothing.
-use Prim.Native.Nat.{ℕ, zero, suc, ◌+◌, ◌/◌, ◌%◌, ◌≤◌, ◌<◌}
-use mathlib.Core.Path.{◌≡◌, refl, sym, ◌∙◌, ap}
-use mathlib.Core.Bool.{Bool, true, false, cond, not, ◌&&◌, ◌||◌, true≢false, false≢true, and-eq-true_iff, and-false, not-not}
-use mathlib.Core.Option.{none, some}
-use native.Mathlib.Omega.{arith}
-use lib.Dec.{eqb, leb}
-use borrow.Author.Tests.{leb-true, leb-false, ltb-true, le-ltb, eqb-true, eqb-false, eq-eqb, ne_eqb, not-true}
+use Rattle.std.proofs.Common.{ℕ, ◌+◌, ◌/◌, ◌%◌, ◌≤◌, ◌<◌, ◌≡◌, ◌∙◌, ◌&&◌, ◌||◌, Bool, None, Some, zero, suc, refl, sym, ap, true, false}
+use Rattle.std.proofs.Common.{cond, not, true≢false, arith, eqb, leb, leb-true, leb-false, ltb-true, le-ltb, eqb-true, eq-eqb, ne_eqb}
+use Rattle.std.proofs.Math.Bool.{false≢true, and-eq-true_iff, and-false, not-not}
+use Rattle.std.proofs.lemmas.Bool.{eqb-false, not-true}
 use Rattle.model.specs.declared.Exchange.{Exchange}
 use Rattle.model.specs.declared.Exchange.TheVariants.{Idle, Waiting, Done}
 use Rattle.model.specs.declared.Times.{Times}
@@ -42,7 +39,7 @@ tests c h =
     }
 
 -- with RLD or SLM set another line timeout only switches, and rule 5 does not act
-switch : (l : Lines) (b t : Bool) → (l.rld || l.slm) ≡ true → lines_later (rule2 b l) none t ≡ rule2 (cond t (not b) b) l
+switch : (l : Lines) (b t : Bool) → (l.rld || l.slm) ≡ true → lines_later (rule2 b l) None t ≡ rule2 (cond t (not b) b) l
 unfolding rule1 rule2 rule5
 switch l b t h = go l.rld l.slm b t l.laa l.ls h
   where
@@ -72,11 +69,11 @@ odd_next k = go (eqb (unpaired k) 1) refl
 -- ---- one bit time after n
 
 module _ (n : ℕ) (t : Times) where
-  not_due : (x : Exchange) → is_some (expired x t) ≡ false → expired x (times_rolled n t) ≡ none
+  not_due : (x : Exchange) → is_some (expired x t) ≡ false → expired x (times_rolled n t) ≡ None
   not_due Idle h = refl
   not_due (Waiting w) h = go (leb t.adopted (since_later t)) h
     where
-      go : (b : Bool) → is_some (cond b (some w) none) ≡ false → cond b (some w) none ≡ none
+      go : (b : Bool) → is_some (cond b (Some w) None) ≡ false → cond b (Some w) None ≡ None
       go true h = absurd (true≢false h)
       go false h = refl
   not_due Done h = refl

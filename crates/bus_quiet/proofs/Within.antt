@@ -1,12 +1,6 @@
 -- What is due within n quiet bit times, in one step, whatever the controller holds. By one bit time after the other: until the reply
 -- time is reached the wait lasts, and nothing else is asked. Assumes nothing.
-use Prim.Native.Nat.{ℕ, zero, suc}
-use mathlib.Core.Path.{◌≡◌, refl, sym, ◌∙◌}
-use mathlib.Core.Bool.{Bool, true, false}
-use mathlib.Core.Option.{none}
-use native.Mathlib.Omega.{arith}
-use lib.Dec.{leb, ltb}
-use borrow.Author.Tests.{lt-ltb, le-leb, leb-true}
+use Rattle.std.proofs.Common.{ℕ, ◌≡◌, ◌∙◌, Bool, None, zero, suc, refl, sym, true, false, arith, leb, ltb, lt-ltb, le-leb, leb-true}
 use Rattle.interrupts.specs.declared.Group.{Group}
 use Rattle.model.specs.declared.Exchange.{Exchange}
 use Rattle.model.specs.declared.Exchange.TheVariants.{Idle, Waiting, Done}
@@ -18,16 +12,13 @@ use Rattle.model.specs.Layout.{Areas}
 use Rattle.model.specs.Host.{controller}
 use Rattle.model.specs.Event.{World, world}
 use Rattle.model.specs.Quiet.{since_later, times_later, pulse_controller, pulse, due_within}
-use Rattle.bus_basics.specs.declared.Due.{Due}
-use Rattle.bus_basics.specs.declared.Due.TheVariants.{No, Word}
-use Rattle.bus_basics.specs.Due.{due_word}
 use Rattle.bus_quiet.specs.Quiet.{since_after, due_in}
 use Rattle.bus_quiet.proofs.BitTime.{one_later}
 use Rattle.bus_quiet.proofs.quiet.due.Reads as due-reads
 use Rattle.bus_quiet.proofs.quiet.due_within.Reads as due-within-reads
 
 -- within no bit time nothing is due
-nothing_yet : (x : Exchange) (t : Times) → none ≡ due_in 0 x t
+nothing_yet : (x : Exchange) (t : Times) → None ≡ due_in 0 x t
 nothing_yet Idle t = refl
 nothing_yet (Waiting w) t = refl
 nothing_yet Done t = refl
@@ -67,17 +58,10 @@ due_in_lem n s =
     let c = s.controller in
     due_parts n c.exchange c.times c.lines c.counts c.group0 c.group1 c.device c.phase s.areas
 
--- two answers that name the same word are the same
-same_due : (x y : Due) → due_word x ≡ due_word y → x ≡ y
-same_due No No e = refl
-same_due No (Word w) e = let f : ◌≡◌ {A = ℕ} 0 1 = cc in absurd (omega arith)
-same_due (Word w) No e = let f : ◌≡◌ {A = ℕ} 0 1 = cc in absurd (omega arith)
-same_due (Word w) (Word v) e = cc
-
 -- The contract of `quiet::due`, as it stands, allows one answer alone.
 pub one_due : (κs : _) (a : _) (r s : _) (e f : _) → due-reads.Learnt κs a r e → due-reads.Learnt κs a s f → r ≡ s
-one_due κs a r s e f p q = same_due r s (p ∙ sym q)
+one_due κs a r s e f p q = p ∙ sym q
 
 -- So does that of `quiet::due_within`.
 pub one_due_within : (κs : _) (a : _) (r s : _) (e f : _) → due-within-reads.Learnt κs a r e → due-within-reads.Learnt κs a s f → r ≡ s
-one_due_within κs a r s e f p q = same_due r s (p ∙ sym q)
+one_due_within κs a r s e f p q = p ∙ sym q

@@ -1,7 +1,7 @@
 -- Document 01, "Quiet time": the controller's part of a quiet bit time, which asks nothing of the areas, and what is due within several.
 -- Assumes nothing.
 use Rattle.std.specs.Prelude.{ℕ, ◌+◌, min, max, cond, ◌&&◌, leb, ltb}
-use Rattle.std.proofs.Math.Option.{Option, none, some}
+use Rattle.std.specs.Prelude.{Option, None, Some}
 use Rattle.interrupts.specs.Names.{RTI, BTI}
 use Rattle.model.specs.declared.Exchange.{Exchange}
 use Rattle.model.specs.declared.Exchange.TheVariants.{Idle, Waiting, Done}
@@ -26,6 +26,6 @@ since_after n s = max s (min (s + n) bus_timeout)
 
 -- the master word whose reply time is reached within n bit times, all at once
 abbrev pub due_in : ℕ → Exchange → Times → Option ℕ
-due_in n Idle t = none
-due_in n (Waiting w) t = cond (ltb 0 n && leb t.adopted (since_after n t.since)) (some w) none
-due_in n Done t = none
+due_in n Idle t = None
+due_in n (Waiting w) t = cond (ltb 0 n && leb t.adopted (since_after n t.since)) (Some w) None
+due_in n Done t = None

@@ -1,98 +1,81 @@
 // Quiet bit times that surely bring nothing are passed at once, and those that bring line timeouts alone (`resting`).
-ghost use Rattle.std.specs.Prelude.{◌≡◌, min, ◌≤◌, ◌-◌};
+ghost use Rattle.std.specs.Prelude.{◌≡◌, ◌≤◌};
 ghost use Rattle.bus_quiet.specs.Jump.{before_reply, before_bus, before_line, free, later, jumped};
 
 use crate::{Passed, quiet, resting};
 use constants::{BUS_TIMEOUT, LINE_TIMEOUT};
 use model::{Controller, Exchange, Times};
 
-// The lesser of two numbers.
-fn least(n: u32, f: u16) -> u16
-    ensures { result ≡ min n f }
-{
-    if n < f as u32 { n as u16 } else { f }
-}
-
-// How far `a` is below `b`, 0 where it is not.
-fn below(a: u16, b: u16) -> u16
-    ensures { result ≡ b - a }
-{
-    if a < b { b - a } else { 0 }
-}
-
 // Bit times before the reply time is reached; where no word is due within the line timeout, that comes first.
 fn before_reply(x: Exchange, t: Times) -> u16
     ensures { result ≡ before_reply x t }
 {
-    let coming = quiet::is_due(quiet::due_within(LINE_TIMEOUT as u32, x, t));
-    if coming {
-        return below(1, below(t.since, t.adopted));
+    if quiet::due_within(LINE_TIMEOUT as u32, x, t).is_some() {
+        t.adopted.saturating_sub(t.since).saturating_sub(1)
+    } else {
+        LINE_TIMEOUT
     }
-    LINE_TIMEOUT
 }
 
 // Bit times before the bus timeout; once it is reached it does not come again.
 fn before_bus(t: Times) -> u16
     ensures { result ≡ before_bus t }
 {
-    let coming = t.since < BUS_TIMEOUT;
-    if coming {
-        return below(t.since, BUS_TIMEOUT - 1);
+    if t.since < BUS_TIMEOUT {
+        BUS_TIMEOUT - 1 - t.since
+    } else {
+        LINE_TIMEOUT
     }
-    LINE_TIMEOUT
 }
 
 // Bit times before the line timeout.
 fn before_line(t: Times) -> u16
     ensures { result ≡ before_line t }
 {
-    below(t.line, LINE_TIMEOUT - 1)
+    (LINE_TIMEOUT - 1).saturating_sub(t.line)
 }
 
 // How many bit times surely bring nothing but later times.
+#[tactic(auto, unfolding(crate::specs::Jump::free))]
 pub fn free(c: Controller) -> u16
     ensures { result ≡ free c }
 {
-    let l = c.lines;
-    let acting = bus_lines::acts5(l);
-    if acting {
+    if bus_lines::acts5(c.lines) {
         return 0;
     }
-    let x = c.exchange;
-    let t = c.times;
-    least(
-        before_reply(x, t) as u32,
-        least(before_bus(t) as u32, before_line(t)),
-    )
+    before_reply(c.exchange, c.times).min(before_bus(c.times).min(before_line(c.times)))
 }
 
 // The controller after k of them.
+#[tactic(auto, using(crate::proofs::Jump::free_line), unfolding(crate::specs::Jump::later))]
 fn later(k: u16, c: Controller) -> Controller
     requires { k ≤ free c }
     ensures { result ≡ later k c }
 {
-    let mut t = c.times;
-    t.since = quiet::since_after(k as u32, t.since);
-    t.line = t.line + k;
-    let mut d = c;
-    d.times = t;
-    d
+    Controller {
+        times: Times {
+            since: quiet::since_after(k as u32, c.times.since),
+            line: c.times.line + k,
+            ..c.times
+        },
+        ..c
+    }
 }
 
 // Of n bit times, all at once where nothing but line timeouts is to come, else as many as surely bring nothing.
+#[tactic(auto, unfolding(crate::specs::Jump::jumped))]
 pub fn jump(n: u32, c: Controller) -> Passed
     ensures { result ≡ jumped n c }
 {
-    let only_line_timeouts = resting::resting(c);
-    if only_line_timeouts {
+    if resting::resting(c) {
         return Passed {
             left: 0,
             controller: resting::rolled(n, c),
         };
     }
-    let k = least(n, free(c));
+    let k = n.min(free(c) as u32);
     Passed {
-        left: n - k as u32,
-        controller: later(k, c),
+        left: n - k,
+        controller: later(k as u16, c),
     }
 }

@@ -10,10 +10,7 @@ use model::Controller;
 fn phase_counted(n: u32, p: u16) -> u64
     ensures { result ≡ phase_reached p + n }
 {
-    if p < MILLISECOND {
-        return p as u64 + n as u64;
-    }
-    MILLISECOND as u64 - 1 + n as u64
+    p.min(MILLISECOND - 1) as u64 + n as u64
 }
 
 // The milliseconds that end within n bit times from the phase p on.
@@ -28,16 +25,18 @@ fn phase_after(n: u32, p: u16) -> u16
     ensures { result ≡ phase_after p n }
 {
     if ends_within(n, p) == 0 {
-        return p + n as u16;
+        p + n as u16
+    } else {
+        (phase_counted(n, p) % MILLISECOND as u64) as u16
     }
-    (phase_counted(n, p) % MILLISECOND as u64) as u16
 }
 
 // The controller with this phase.
 pub fn phase_later(n: u32, c: Controller) -> Controller
     ensures { result ≡ phased n c }
 {
-    let mut d = c;
-    d.phase = phase_after(n, c.phase);
-    d
+    Controller {
+        phase: phase_after(n, c.phase),
+        ..c
+    }
 }

@@ -1,19 +1,10 @@
-// Document 01's numbers, each in one place: the refusals by name, the ranges of arguments, the times, and the shape of the areas. A wrong
-// number is refused where the code that uses it is proved against the definition that has it.
+// Document 01's numbers, each in one place: the ranges of arguments, the times and the shape of the areas; and what callers are told
+// (`refusals`). A wrong number is refused where the code that uses it is proved against the definition that has it.
 #![tactic(auto)]
 
-// What callers are told; 0 is no refusal.
-pub const AREA: u16 = 1;
+mod refusals;
 
-pub const RANGE: u16 = 2;
-
-pub const NOPORT: u16 = 3;
-
-pub const TAKEN: u16 = 4;
-
-pub const SIDE: u16 = 5;
-
-pub const DAMAGED: u16 = 6;
+pub use refusals::{Refusal, told};
 
 // Addresses are 0 to 4095, ports 1 to 255, the F-codes of ports 0 to 4, data transfer interrupts 1 to 7, or 0 for none.
 pub const LAST_ADDRESS: u16 = 4095;
@@ -64,9 +55,6 @@ pub const PAGE_WORDS: usize = 16;
 
 // A master word is F-code x 4096 + address.
 pub const CODE_UNIT: u16 = 4096;
-
-// Fills are counted modulo 65,536.
-pub const FILLS: u32 = 65536;
 
 // The weights of the flags in word 1: the sides, the status bits, among them the marks of the blocks, and the first bit that is always zero.
 pub const VP: u16 = 1;

@@ -1,5 +1,5 @@
 -- Document 01, "Numbers on either side": the cases marked P, as one list and one test that antt computes. Assumes nothing.
-use Rattle.std.proofs.Math.Option.{Option, none, some}
+use Rattle.std.specs.Prelude.{Option, None, Some}
 use Rattle.std.specs.Prelude.{ℕ, ◌+◌, ◌^◌, Bool, true, false, ◌&&◌, List, [], ◌∷◌, T, eqb}
 use Rattle.std.specs.Int.Count.{ones}
 use Rattle.sequence.specs.Check.{push, pushes, rest, ones_of, check_of}
@@ -21,8 +21,8 @@ read g [] = true
 read g (v ∷ vs) = eqb (vector_read g).value v && read (vector_read g).group vs
 
 abbrev pub is_size : Option ℕ → ℕ → Bool
-is_size (some m) n = eqb m n
-is_size none n = false
+is_size (Some m) n = eqb m n
+is_size None n = false
 
 abbrev pub right : Case → Bool
 right (check ws byte) = eqb (check_of ws) byte

@@ -11,7 +11,6 @@ use Rattle.model.specs.Past.{after, Accepted}
 use Rattle.host_ports.specs.Host.{host_call}
 use Rattle.host_controller.specs.Groups.{reading0, reading1}
 use Rattle.host_controller.specs.Settings.{told_for}
-use Rattle.bus.specs.Promise.{as_answered}
 use Rattle.demands.specs.Made.{Made, by_hear, by_quiet, by_open, by_close, by_write, by_ask, by_set_address, by_set_reply_time}
 use Rattle.demands.specs.Made.{by_set_status, by_set_slm, by_set_ls, by_clear_ec, by_reset, by_on_group0, by_on_group1}
 use Rattle.demands.specs.Made.{Ran, begun, accepted, refused}
@@ -27,8 +26,8 @@ zeroed {u} {v} {c} {q = q} e m = (q, (v, subst (λ (k : ℕ). Made u c k q v) (n
 
 -- a call that the code made once it makes wherever the definitions accept it
 again : {s t : World} {c : Call} {n : ℕ} {r : Hearing} → Made s c n r t → Callable c
-again (by_hear {a} {b} p) u e = let o = outcome (hear a b) u in zeroed e (by_hear {m = o.world.areas} {r = as_answered o} refl)
-again (by_quiet {n} p) u e = let o = outcome (quiet n) u in zeroed e (by_quiet {m = o.world.areas} {r = as_answered o} refl)
+again (by_hear {a} {b} p) u e = zeroed e (by_hear {o = outcome (hear a b) u} refl)
+again (by_quiet {n} p) u e = zeroed e (by_quiet {o = outcome (quiet n) u} refl)
 again (by_open {a} {p} {code} {sink} {i} {limit} eq) u e =
     let o = host_call (open_port a p code sink i limit) u.areas in
     zeroed e (by_open {m = o.after} {n = o.number} refl)

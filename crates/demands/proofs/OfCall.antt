@@ -4,7 +4,7 @@ use mathlib.Core.Path.{◌≡◌, refl, sym, ◌∙◌, ap, subst}
 use mathlib.Core.Logic.{◌↔◌}
 use mathlib.Core.Bool.{true, false}
 use mathlib.Core.List.{List}
-use mathlib.Core.Option.{Option, none, some}
+use Rattle.std.specs.Prelude.{Option, None, Some}
 use borrow.Author.Tests.{ne_eqb}
 use Rattle.frames.specs.declared.Hearing.{Hearing}
 use Rattle.frames.specs.declared.Judgement.TheVariants.{Sound}
@@ -71,22 +71,22 @@ module _ {s t : World} {a b r : Hearing} (made : Made s (hear a b) 0 r t) where
   reply_sound m speaks = go (answer (hear a b) s) refl (accepted_step made refl).1
     where
       go : (o : Option (List ℕ)) → answer (hear a b) s ≡ o → spoken o ≡ r → judged_slave (code_of (first_word heard_on)) r ≡ Sound
-      go none e z = absurd (speaks (sym z))
-      go (some ws) e z = rw (← z) (anywhere.reply_sound_anywhere s a b accepts m ws e)
+      go None e z = absurd (speaks (sym z))
+      go (Some ws) e z = rw (← z) (anywhere.reply_sound_anywhere s a b accepts m ws e)
 
   -- It is given to a sound master frame alone.
   pub no_other_reply : (SoundMaster heard_on → ⊥) → r ≡ silent
   no_other_reply n = sym (accepted_step made refl).1 ∙ ap spoken (anywhere.no_other_reply_anywhere s a b n)
 
   -- A sound slave frame on the trusted line that answers the waiting word of an open sink fills its port with the words of the frame.
-  pub fills : (e : ℕ) (v : Standing) → standing s.areas e ≡ some v → v.sink ≡ true → answers_now s.controller a b v.word ≡ true
+  pub fills : (e : ℕ) (v : Standing) → standing s.areas e ≡ Some v → v.sink ≡ true → answers_now s.controller a b v.word ≡ true
       → t.areas ≡ filled s.areas v.port (words_of heard_on)
   fills e v there sink sound =
       rw (← (accepted_step made refl).0) (anywhere.fills_anywhere s a b accepts e v there sink sound)
 
   -- Otherwise no area changes but for status bits.
   pub others : Typed (hear a b)
-      → ((e : ℕ) (v : Standing) → standing s.areas e ≡ some v → v.sink ≡ true → answers_now s.controller a b v.word ≡ false)
+      → ((e : ℕ) (v : Standing) → standing s.areas e ≡ Some v → v.sink ≡ true → answers_now s.controller a b v.word ≡ false)
       → OnlyStatus s.areas t.areas
   others typed away = rw (← (accepted_step made refl).0) (anywhere.others_anywhere s a b accepts typed away)
 

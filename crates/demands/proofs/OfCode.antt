@@ -5,13 +5,13 @@ use mathlib.Core.Path.{◌≡◌, refl, sym, ◌∙◌, ap}
 use mathlib.Core.Logic.{◌↔◌, ◌⊎◌}
 use mathlib.Core.Bool.{true, false}
 use mathlib.Core.List.{List, [], ◌∷◌}
-use mathlib.Core.Option.{none, some}
+use Rattle.std.specs.Prelude.{None, Some}
 use lib.ListN.{length}
 use Rattle.frames.specs.declared.Hearing.{Hearing}
 use Rattle.frames.specs.Hearing.{words_of}
 use Rattle.interrupts.specs.Names.{SFC}
-use Rattle.model.specs.declared.Answer.{Answer}
-use Rattle.model.specs.declared.Answer.TheVariants.{Never, Refused, Stale}
+use Rattle.model.specs.Answer.{Answer}
+use Rattle.model.specs.Answer.{Never, Refused, Stale}
 use Rattle.model.specs.Layout.{Areas, pages_fit, port_at, flags_of}
 use Rattle.model.specs.Lines.{LineBits}
 use Rattle.model.specs.Ports.{code_of, address_of, has_ports, Standing, standing, view, oldest}
@@ -81,8 +81,8 @@ module _ {past : List Call} {s : World} (calls : Ran past s) where
     taken_exactly typed e = rw (← (accepted_step made refl).0, ← same) (demand.frame_seen past all a b typed e)
 
     -- The port that takes the frame raises its interrupt.
-    pub taken_raises : (e : ℕ) (v : Standing) → standing s.areas e ≡ some v → v.sink ≡ true → answers past a b v.word ≡ true
-        → t.controller.group0 ≡ raise_all (SFC ∷ interrupt_of (some v)) s.controller.group0
+    pub taken_raises : (e : ℕ) (v : Standing) → standing s.areas e ≡ Some v → v.sink ≡ true → answers past a b v.word ≡ true
+        → t.controller.group0 ≡ raise_all (SFC ∷ interrupt_of (Some v)) s.controller.group0
     taken_raises e v there sink sound =
         rw (← (accepted_step made refl).0, ← same) (demand.frame_raises past all a b e v (rw same there) sink sound)
 
@@ -105,8 +105,8 @@ module _ {past : List Call} {s : World} (calls : Ran past s) where
       status_replied = sym spoke ∙ ap spoken (demand.status_reply past all a b m poll ours)
 
       -- Bit by bit: LAA and RLD at their places, and each other bit the host's.
-      pub status_bits : (w : ℕ) → (last_settings past).status ≡ some w
-          → (x : ℕ) × (r ≡ spoken (some (x ∷ []))) × LineBits (lines_polled past a b) w x
+      pub status_bits : (w : ℕ) → (last_settings past).status ≡ Some w
+          → (x : ℕ) × (r ≡ spoken (Some (x ∷ []))) × LineBits (lines_polled past a b) w x
       status_bits w e =
           let told = demand.status_bits past all a b m poll ours w e in
           (told.0, sym spoke ∙ ap spoken told.1, told.2)
@@ -126,21 +126,21 @@ module _ {past : List Call} {s : World} (calls : Ran past s) where
   shows_told a = rw (← same) (demand.shows_told past all a)
 
   -- Where no port was opened, `ask` says so.
-  pub ask_closed : (a : ℕ) (x : Answer) → x ≡ asked s.areas a → a < 4096 → opening_of past a ≡ none → x ≡ Refused 3
+  pub ask_closed : (a : ℕ) (x : Answer) → x ≡ asked s.areas a → a < 4096 → opening_of past a ≡ None → x ≡ Refused 3
   ask_closed a x e low none_open = e ∙ rw (← same) (demand.ask_closed past all a low none_open)
 
-  module _ (a : ℕ) (o : Opening) (stands : opening_of past a ≡ some o) where
+  module _ (a : ℕ) (o : Opening) (stands : opening_of past a ≡ Some o) where
     -- An open sink shows the words of the last sound slave frame that answered its master frame since it was opened, or that there
     -- was none, and its fills are their number.
     pub sink_shows : o.sink ≡ true
         → let l = answers_since past a o.word in
-        view s.areas a ≡ some (view_with o (last_of l) (length l % 65536))
+        view s.areas a ≡ Some (view_with o (last_of l) (length l % 65536))
     sink_shows k = rw (← same) (demand.sink_shows past all a o stands k)
 
     -- An open source shows the words that the host last wrote, or that there were none, and its fills are their number.
     pub source_shows : o.sink ≡ false
         → let l = writes_since past a in
-        view s.areas a ≡ some (view_with o (last_of l) (length l % 65536))
+        view s.areas a ≡ Some (view_with o (last_of l) (length l % 65536))
     source_shows k = rw (← same) (demand.source_shows past all a o stands k)
 
     -- Asking answers never exactly where nothing filled the port since it was opened.

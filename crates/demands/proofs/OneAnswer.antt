@@ -2,10 +2,13 @@
 use Prim.Native.Nat.{ℕ}
 use mathlib.Core.Path.{◌≡◌, refl, sym, ◌∙◌, ap}
 use mathlib.Core.Bool.{Bool, true, false, cond}
-use mathlib.Core.Option.{none}
+use Rattle.std.specs.Prelude.{None, Result, Ok, Err}
+use Rattle.constants.specs.declared.refusals.Refusal.{Refusal}
+use Rattle.constants.specs.declared.refusals.Refusal.TheVariants.{Range}
+use Rattle.constants.specs.Refusal.{told}
 use lib.Dec.{eqb}
 use Rattle.frames.specs.declared.Hearing.{Hearing}
-use Rattle.model.specs.declared.Answer.{Answer}
+use Rattle.model.specs.Answer.{Answer}
 use Rattle.model.specs.declared.Controller.{Controller}
 use Rattle.model.specs.Layout.{Areas}
 use Rattle.model.specs.Event.{World, world, silent}
@@ -14,9 +17,8 @@ use Rattle.model.specs.Calls.{Call, Outcome, outcome_of, outcome, read_port, set
 use Rattle.model.specs.Calls.{asked, refusal_of}
 use Rattle.host_ports.specs.Host.{Out, out, host_call, port_areas}
 use Rattle.host_controller.specs.declared.Reading.{Reading}
-use Rattle.host_controller.specs.declared.Told.{Told}
 use Rattle.host_controller.specs.Groups.{reading0, reading1}
-use Rattle.host_controller.specs.Settings.{told_with, told_for}
+use Rattle.host_controller.specs.Settings.{told_for, after_told}
 use Rattle.model.proofs.Reading.{asked_number}
 use Rattle.demands.specs.Made.{Made, by_hear, by_quiet, by_open, by_close, by_write, by_ask, by_set_address, by_set_reply_time}
 use Rattle.demands.specs.Made.{by_set_status, by_set_slm, by_set_ls, by_clear_ec, by_reset, by_on_group0, by_on_group1}
@@ -27,7 +29,7 @@ outcome_with n r t = record { refusal = n; reply = r; world = t }
 
 -- ---- the host's calls on ports ask nothing of the controller, and leave it
 
-module _ (c : Call) (s : World) (number : refusal c (fresh_over s.areas) ≡ refusal c s) (mute : answer c s ≡ none)
+module _ (c : Call) (s : World) (number : refusal c (fresh_over s.areas) ≡ refusal c s) (mute : answer c s ≡ None)
     (left : step c s ≡ world s.controller (step c (fresh_over s.areas)).areas) where
   on_ports : {m : Areas} {n : ℕ} → out m n ≡ host_call c s.areas → outcome c s ≡ outcome_with n silent (world s.controller m)
   unfolding host_call port_areas port_refusal outcome
@@ -54,14 +56,14 @@ set s t = go (setting_out t)
     go true = refl
     go false = refl
 
-ranged : (s : World) (t : Setting) {r : Told} → r ≡ told_for t s.controller
-    → outcome (setting t) s ≡ outcome_with r.refusal silent (world r.controller s.areas)
+ranged : (s : World) (t : Setting) {r : Result Controller Refusal} → r ≡ told_for t s.controller
+    → outcome (setting t) s ≡ outcome_with (told r) silent (world (after_told s.controller r) s.areas)
 unfolding told_for
 ranged s t e = set s t ∙ rw e (go (setting_out t))
   where
     go : (b : Bool) → cond b (outcome_with 2 silent s) (outcome_with 0 silent (world (tell t s.controller) s.areas))
-        ≡ outcome_with (cond b (told_with 2 s.controller) (told_with 0 (tell t s.controller))).refusal silent
-        (world (cond b (told_with 2 s.controller) (told_with 0 (tell t s.controller))).controller s.areas)
+        ≡ outcome_with (told (cond b (Err Range) (Ok (tell t s.controller)))) silent
+        (world (after_told s.controller (cond b (Err Range) (Ok (tell t s.controller)))) s.areas)
     go true = refl
     go false = refl
 

@@ -3,7 +3,7 @@
 use mathlib.Core.Path.{◌≡◌, refl, sym, ap, ap₂, ◌∙◌, subst}
 use mathlib.Core.Bool.{true, false}
 use mathlib.Core.List.{List, [], ◌∷◌}
-use mathlib.Core.Option.{Option, none, some}
+use Rattle.std.specs.Prelude.{Option, None, Some}
 use Prim.Native.Nat.{ℕ, zero, suc, ◌-◌, ◌*◌, ◌^◌, ◌≤◌, ◌<◌}
 use native.Mathlib.Omega.{arith}
 use borrow.Author.Tests.{eq-eqb}
@@ -163,7 +163,7 @@ code_with eight = 3
 code_with sixteen = 4
 
 -- Each frame size is that of an F-code,
-pub size_expected : {n : ℕ} (s : FrameSize n) → expected_of (code_with s) ≡ some n
+pub size_expected : {n : ℕ} (s : FrameSize n) → expected_of (code_with s) ≡ Some n
 unfolding expected_of sizes
 size_expected one = refl
 size_expected two = refl
@@ -172,20 +172,20 @@ size_expected eight = refl
 size_expected sixteen = refl
 
 abbrev Sized : Option ℕ → Type 0
-Sized (some n) = FrameSize n
-Sized none = Unit
+Sized (Some n) = FrameSize n
+Sized None = Unit
 
 abbrev AllSized : List (Option ℕ) → Type 0
 AllSized [] = Unit
 AllSized (x ∷ xs) = Sized x × AllSized xs
 
-sized_at : (l : List (Option ℕ)) (k : ℕ) → AllSized l → Sized (get_or l k none)
+sized_at : (l : List (Option ℕ)) (k : ℕ) → AllSized l → Sized (get_or l k None)
 sized_at [] k f = tt
 sized_at (x ∷ xs) zero f = f.0
 sized_at (x ∷ xs) (suc k) f = sized_at xs k f.1
 
 -- and there is no other.
-pub expected_size : (code n : ℕ) → expected_of code ≡ some n → FrameSize n
+pub expected_size : (code n : ℕ) → expected_of code ≡ Some n → FrameSize n
 unfolding expected_of sizes
 expected_size code n e = subst Sized e (sized_at sizes code all)
   where

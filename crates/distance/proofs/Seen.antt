@@ -4,7 +4,7 @@
 use mathlib.Core.Path.{◌≡◌, refl, sym, ap, ◌∙◌, subst}
 use mathlib.Core.Bool.{Bool, true, false, true≢false, not, ◌&&◌, and-eq-true_iff, not-not}
 use mathlib.Core.List.{List}
-use mathlib.Core.Option.{Option, some}
+use Rattle.std.specs.Prelude.{Option, Some}
 use Prim.Native.Nat.{ℕ, zero, suc, min, ◌-◌, ◌*◌, ◌≤◌, ◌<◌}
 use native.Mathlib.Omega.{arith}
 use borrow.Author.Tests.{eqb-true, ne_eqb, lt-ltb}
@@ -144,7 +144,7 @@ unfolding judged_master
 master_seen k h es fs = flips_seen 1 k h es fs
 
 -- and with slave frames, for each waiting F-code that expects a reply.
-pub slave_seen : (code n k : ℕ) (h : Hearing) (es fs : List ℕ) → expected_of code ≡ some n → Room h → Masks es → judged_slave code h ≡ Sound
+pub slave_seen : (code n k : ℕ) (h : Hearing) (es fs : List ℕ) → expected_of code ≡ Some n → Room h → Masks es → judged_slave code h ≡ Sound
     → Flips n es fs k → Caught (judged_slave code (flipped h es fs)) k
 unfolding judged_slave
 slave_seen code n k h es fs size room masks sound flips =
@@ -163,6 +163,6 @@ judge_master_seen k h es fs κs r s e f p q room masks sound flips =
 -- And so it is with `judge_slave`, for each F-code that expects a reply.
 pub judge_slave_seen : (code n k : ℕ) (h : Hearing) (es fs : List ℕ) (κs : _) (r s : _) (e f : _)
     → judge-slave-reads.Learnt κs (code, (h, tt)) r e → judge-slave-reads.Learnt κs (code, (flipped h es fs, tt)) s f
-    → expected_of code ≡ some n → Room h → Masks es → r ≡ Sound → Flips n es fs k → Caught s k
+    → expected_of code ≡ Some n → Room h → Masks es → r ≡ Sound → Flips n es fs k → Caught s k
 judge_slave_seen code n k h es fs κs r s e f p q size room masks sound flips =
     subst (λ (j : Judgement). Caught j k) (sym q) (slave_seen code n k h es fs size room masks (sym p ∙ sound) flips)

@@ -3,7 +3,7 @@
 use Prim.Native.Nat.{ℕ}
 use mathlib.Core.Path.{◌≡◌, refl, sym, ◌∙◌, ap, ap₂}
 use mathlib.Core.Bool.{Bool, true, false, cond}
-use Rattle.model.specs.declared.Answer.TheVariants.{Refused}
+use Rattle.model.specs.Answer.{Refused}
 use Rattle.model.specs.Layout.{Areas, pages_fit, entry}
 use Rattle.model.specs.Ports.{valid_words}
 use Rattle.model.specs.Calls.{asked, refusal_of, part_for}

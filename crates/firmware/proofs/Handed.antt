@@ -1,6 +1,5 @@
 -- What the exported calls hand out: given a controller of ours, a controller of ours; and a refused call hands back exactly what it was
--- given.
--- From the theorem on the model's calls and the conversions being inverse. Assumes nothing.
+-- given. From the theorem on the model's calls and the conversions being inverse. Assumes nothing.
 use Prim.Native.Nat.{ℕ}
 use mathlib.Core.Path.{◌≡◌, refl}
 use mathlib.Core.Bool.{Bool, true, false, cond, ◌&&◌}
@@ -11,7 +10,9 @@ use Rattle.model.specs.Event.{world, silent}
 use Rattle.model.specs.Host.{Setting, setting_out, fresh_controller, tell, group0, group1}
 use Rattle.model.specs.Calls.{Call, outcome}
 use Rattle.host_controller.specs.declared.GroupCall.{GroupCall}
-use Rattle.host_controller.specs.Settings.{told_for, told_with as answered}
+use Rattle.host_controller.specs.Settings.{told_for, after_told}
+use Rattle.constants.specs.declared.refusals.Refusal.TheVariants.{Range}
+use Rattle.std.specs.Prelude.{Ok, Err}
 use Rattle.host_controller.specs.Groups.{call_of, reading0, reading1}
 use Rattle.firmware_layout.specs.declared.FlatController.{FlatController}
 use Rattle.firmware_layout.specs.Flags.{is_bit, is_set}
@@ -44,7 +45,7 @@ setting_handed true t f e = go (setting_out t) refl
     c : Controller
     c = controller_of f
 
-    go : (b : Bool) → setting_out t ≡ b → ours (flat (cond b (answered 2 c) (answered 0 (tell t c))).controller) ≡ true
+    go : (b : Bool) → setting_out t ≡ b → ours (flat (after_told c (cond b (Err Range) (Ok (tell t c))))) ≡ true
     go true z = (ours_taken f e).numbers
     go false z = (ours_told t c z (ours_taken f e)).numbers
 

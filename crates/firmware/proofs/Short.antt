@@ -2,9 +2,9 @@
 -- a call hands back fits its numbers. Assumes nothing.
 use Prim.Native.Nat.{ℕ, ◌+◌, ◌/◌, ◌≤◌}
 use mathlib.Core.Path.{◌≡◌, refl}
-use mathlib.Core.Bool.{Bool, true, false, cond, ◌&&◌}
-use mathlib.Core.List.{List, [], ◌∷◌}
-use mathlib.Core.Option.{Option, none, some}
+use mathlib.Core.Bool.{Bool, true, false, cond}
+use mathlib.Core.List.{List, []}
+use Rattle.std.specs.Prelude.{Option, None, Some, Ok, Err}
 use native.Mathlib.Omega.{arith}
 use lib.Dec.{eqb, leb}
 use lib.ListN.{length, drop, length-take}
@@ -12,16 +12,15 @@ use borrow.Author.Tests.{leb-true}
 use Rattle.sequence.specs.Frame.{blocks, frame_checks}
 use Rattle.frames.specs.declared.Hearing.{Hearing}
 use Rattle.frames.specs.Size.{expected_of}
-use Rattle.model.specs.declared.Answer.{Answer}
-use Rattle.model.specs.declared.Answer.TheVariants.{Never, Good, Held, Stale, Refused}
+use Rattle.model.specs.Answer.{Answer}
+use Rattle.model.specs.Answer.{Never, Good, Held, Stale, Refused}
 use Rattle.model.specs.declared.Device.{Device}
 use Rattle.model.specs.declared.Heard.{Heard}
 use Rattle.model.specs.declared.Heard.TheVariants.{Nothing, Unsound, Master, Reply, Stray}
-use Rattle.model.specs.declared.Sought.{Sought}
-use Rattle.model.specs.declared.Sought.TheVariants.{Nothing as NoPort, Damaged, Port}
+use Rattle.model.specs.Answer.{Sought}
 use Rattle.model.specs.Layout.{Areas, pages_fit, entry, port_at, flags_of, part_of, page_place}
 use Rattle.model.specs.Ports.{code_of, address_of, has_ports, size_of, valid_words, Standing, standing_of, seek, seen, standing}
-use Rattle.model.specs.Event.{World, open_for, port_for, if_source, source_for, polls_us, own_words, if_expected, answer_to, sent, silent, spoken}
+use Rattle.model.specs.Event.{World, open_for, port_for, if_source, source_for, polls_us, status_words, own_words, if_expected, answer_to, sent, silent, spoken}
 use Rattle.model.specs.Event.{heard_by}
 use Rattle.model.proofs.Tables.{answer_of}
 use Rattle.model.proofs.Tables.{hear_answer_lem}
@@ -58,12 +57,12 @@ fetched_short m a = fits (pages_fit m)
 -- ---- what is replied
 
 abbrev Short : Option (List ℕ) → Type 0
-Short none = Unit
-Short (some ws) = length ws ≤ 16
+Short None = Unit
+Short (Some ws) = length ws ≤ 16
 
 abbrev Shows : Option Standing → Type 0
-Shows none = Unit
-Shows (some v) = Short v.shows
+Shows None = Unit
+Shows (Some v) = Short v.shows
 
 cond_short : (b : Bool) (x y : Option (List ℕ)) → Short x → Short y → Short (cond b x y)
 cond_short true x y h k = h
@@ -78,31 +77,35 @@ unfolding standing standing_of
 standing_shows m a = go (seek m a)
   where
     go : (x : Sought) → Shows (seen m x)
-    go NoPort = tt
-    go Damaged = tt
-    go (Port p) =
+    go (Ok None) = tt
+    go (Err e) = tt
+    go (Ok (Some p)) =
         let part = part_short _ p (code_of (port_at m p).master) in
-        cond_short (flags_of (port_at m p).flags).ever (some (valid_words m p)) none part tt
+        cond_short (flags_of (port_at m p).flags).ever (Some (valid_words m p)) None part tt
 
 port_shows : (m : Areas) (w : ℕ) → Shows (port_for m w)
 unfolding port_for
-port_shows m w = cond_shows (has_ports (code_of w)) _ none (go (standing m (address_of w)) (standing_shows m (address_of w))) tt
+port_shows m w = cond_shows (has_ports (code_of w)) _ None (go (standing m (address_of w)) (standing_shows m (address_of w))) tt
   where
     go : (o : Option Standing) → Shows o → Shows (open_for w o)
-    go none h = tt
-    go (some v) h = cond_shows (eqb v.word w) (some v) none h tt
+    go None h = tt
+    go (Some v) h = cond_shows (eqb v.word w) (Some v) None h tt
 
 source_short : (o : Option Standing) → Shows o → Short (if_source o)
-source_short none h = tt
-source_short (some v) h = cond_short v.sink none v.shows tt h
+source_short None h = tt
+source_short (Some v) h = cond_short v.sink None v.shows tt h
 
 own_short : (d : Device) (w : ℕ) (o : Option (List ℕ)) → Short o → Short (own_words d w o)
-own_short d w none h = cond_short (polls_us d w && d.set) (some (d.status ∷ [])) none (omega arith) tt
-own_short d w (some ws) h = h
+own_short d w None h = cond_short (polls_us d w) (status_words d.status) None (go d.status) tt
+  where
+    go : (o : Option ℕ) → Short (status_words o)
+    go None = tt
+    go (Some s) = omega arith
+own_short d w (Some ws) h = h
 
 expected_short : (x : Option ℕ) (o : Option (List ℕ)) → Short o → Short (if_expected x o)
-expected_short (some n) o h = h
-expected_short none o h = tt
+expected_short (Some n) o h = h
+expected_short None o h = tt
 
 heard_short : (d : Device) (m : Areas) (h : Heard) → Short (answer_of d m h)
 unfolding answer_to
@@ -143,14 +146,14 @@ checks_small ws = go (leb (length ws) 16) refl
 
 spoken_small : (o : Option (List ℕ)) → Short o → Small (spoken o)
 unfolding sent
-spoken_small none h = silent_small
-spoken_small (some ws) h = (h, checks_small ws)
+spoken_small None h = silent_small
+spoken_small (Some ws) h = (h, checks_small ws)
 
 -- Each reply has at most 16 words and 4 check bytes.
 pub reply_small : (c : Call) (s : World) → Small (outcome c s).reply
 unfolding outcome
 reply_small c s = go (eqb (refusal c s) 0)
   where
-    go : (b : Bool) → Small (cond b (spoken (answer c s)) (spoken none))
+    go : (b : Bool) → Small (cond b (spoken (answer c s)) (spoken None))
     go true = spoken_small (answer c s) (answer_short c s)
     go false = silent_small

@@ -1,10 +1,12 @@
 -- What the exported calls answer and leave: the outcomes of the crates `model` and `host_controller`, through the conversions; and what
 -- is turned away before it comes to a call. Assumes nothing.
-use Rattle.std.specs.Prelude.{ℕ, Bool, cond, ◌&&◌, List, length}
+use Rattle.std.specs.Prelude.{ℕ, Bool, cond, ◌&&◌, List, length, Result}
+use Rattle.constants.specs.declared.refusals.Refusal.{Refusal}
+use Rattle.constants.specs.Refusal.{told}
 use Rattle.sequence.specs.Frame.{frame_checks}
 use Rattle.interrupts.specs.declared.Group.{Group}
-use Rattle.model.specs.declared.Answer.{Answer}
-use Rattle.model.specs.declared.Answer.TheVariants.{Never, Good, Held, Stale, Refused}
+use Rattle.model.specs.Answer.{Answer}
+use Rattle.model.specs.Answer.{Never, Good, Held, Stale, Refused}
 use Rattle.model.specs.declared.Controller.{Controller}
 use Rattle.model.specs.Layout.{Areas, pages_fit, areas_fit}
 use Rattle.model.specs.Event.{world, padded, silent}
@@ -12,8 +14,7 @@ use Rattle.model.specs.Host.{Setting}
 use Rattle.model.specs.Calls.{Call, Outcome, outcome, asked, fetched, refusal_of}
 use Rattle.host_controller.specs.declared.GroupCall.{GroupCall}
 use Rattle.host_controller.specs.declared.Reading.{Reading}
-use Rattle.host_controller.specs.declared.Told.{Told}
-use Rattle.host_controller.specs.Settings.{told_for}
+use Rattle.host_controller.specs.Settings.{told_for, after_told}
 use Rattle.host_controller.specs.Groups.{reading0, reading1}
 use Rattle.host_ports.specs.Host.{Out, out, host_call}
 use Rattle.firmware_layout.specs.declared.FlatController.{FlatController}
@@ -32,6 +33,10 @@ use Rattle.firmware_layout.specs.Hearing.{flat_hearing}
 
 abbrev pub away_number : Areas → ℕ
 away_number m = cond (areas_fit m) 2 1
+
+-- the number of a call that is turned away, or 0 where its areas have their lengths and its arguments are given
+abbrev pub admitted : Bool → Areas → ℕ
+admitted given m = cond (areas_fit m) (cond given 0 2) 1
 
 -- ---- bus events and quiet time
 
@@ -88,14 +93,14 @@ fetching m a = fetched_with (cond (pages_fit m) (refusal_of (asked m a)) 1) (fet
 
 -- ---- settings
 
-abbrev pub flat_told : Told → FlatTold
-flat_told t = record { refusal = t.refusal; controller = flat t.controller }
+abbrev pub flat_told : Controller → Result Controller Refusal → FlatTold
+flat_told c answer = record { refusal = told answer; controller = flat (after_told c answer) }
 
 abbrev pub away_told : FlatController → FlatTold
 away_told f = record { refusal = 2; controller = f }
 
 unfoldable pub set_through : Bool → Setting → FlatController → FlatTold
-set_through given s f = cond given (flat_told (told_for s (controller_of f))) (away_told f)
+set_through given s f = cond given (flat_told (controller_of f) (told_for s (controller_of f))) (away_told f)
 
 -- ---- interrupt groups, 0 or 1
 

@@ -1,41 +1,47 @@
 // Bus events and quiet time (document 01, "What one bus event does" and "Quiet time"), and the check bytes of a frame that a host sends.
 ghost use Rattle.std.specs.Prelude.{◌≡◌, ◌&&◌, ◌≤◌};
-ghost use Rattle.model.specs.Layout.{areas};
+ghost use Rattle.std.specs.Result.{ForOk};
+ghost use Rattle.constants.specs.Refusal.{number};
+ghost use Rattle.model.specs.Layout.{areas, Areas};
 ghost use Rattle.model.specs.Event.{silent};
 ghost use Rattle.model.specs.Calls.{hear, quiet};
+ghost use Rattle.bus.specs.Promise.{as_outcome};
 ghost use Rattle.firmware_layout.specs.Controller.{flat, ours};
 ghost use Rattle.firmware_layout.specs.Hearing.{flat_hearing, hearing_of, formed};
-ghost use Rattle.firmware.specs.Promise.{answers, leaves, through, flat_checks};
+ghost use Rattle.firmware.specs.Promise.{answers, leaves, flat_outcome, through, flat_checks};
 
-use crate::away::away_number;
+use crate::away::admitted;
 use crate::{FlatAnswered, FlatChecks, given, reply};
-use areas::layout;
 use bus::{Answered, calls};
-use bus_ports::frame;
-use firmware_layout::{FlatController, FlatHearing, hearing, state};
-use logic::both;
+use bus_ports::frame::SILENT;
+use constants::Refusal;
+use firmware_layout::{FlatController, FlatHearing};
+use frames::Hearing;
+use model::Controller;
 
-fn flat_answered(r: Answered) -> FlatAnswered
-    requires { (r.reply.size ≤ 16) × (r.reply.ends ≤ 4) }
-    ensures { result ≡ answers r.refusal (flat r.controller) (flat_hearing r.reply) }
+// What a call with the controller x answered.
+fn flat_answered(x: Controller, answer: Result<Answered, Refusal>) -> FlatAnswered
+    requires { ForOk answer (λ r. (r.reply.size ≤ 16) × (r.reply.ends ≤ 4)) }
+    ensures { (m : Areas) → leaves m result ≡ flat_outcome (as_outcome x m answer) }
 {
-    let c = r.controller;
-    let h = r.reply;
-    FlatAnswered {
-        refusal: r.refusal,
-        controller: state::flat(c),
-        reply: reply::flat_hearing(h),
+    match answer {
+        Ok(r) => FlatAnswered {
+            refusal: 0,
+            controller: FlatController::from(r.controller),
+            reply: reply::flat_hearing(r.reply),
+        },
+        Err(refusal) => turn_away(refusal, FlatController::from(x)),
     }
 }
 
 // A call that is turned away: the controller as it was, and no reply.
-fn turn_away(number: u16, c: FlatController) -> FlatAnswered
-    ensures { result ≡ answers number c (flat_hearing silent) }
+fn turn_away(refusal: Refusal, c: FlatController) -> FlatAnswered
+    ensures { result ≡ answers (number refusal) c (flat_hearing silent) }
 {
     FlatAnswered {
-        refusal: number,
+        refusal: u16::from(refusal),
         controller: c,
-        reply: reply::flat_hearing(frame::silent()),
+        reply: reply::flat_hearing(SILENT),
     }
 }
 
@@ -53,17 +59,14 @@ pub fn tolvendrum_hear(
         through (ours c && formed a && formed b) (hear (hearing_of a) (hearing_of b)) c
         (areas index.now ports.old page0.old page1.old) }
 {
-    let given = both(
-        layout::fits(index, ports, page0, page1),
-        given::with_hearings(c, a, b),
-    );
-    if given {
-        let x = state::controller_of(c);
-        let on_a = hearing::hearing_of(a);
-        let on_b = hearing::hearing_of(b);
-        return flat_answered(calls::hear(index, ports, page0, page1, x, on_a, on_b));
+    let given = given::with_hearings(c, a, b);
+    if let Err(refusal) = admitted(index, ports, page0, page1, given) {
+        return turn_away(refusal, c);
     }
-    turn_away(away_number(index, ports, page0, page1), c)
+    let x = Controller::from(c);
+    let on_a = Hearing::from(a);
+    let on_b = Hearing::from(b);
+    flat_answered(x, calls::hear(index, ports, page0, page1, x, on_a, on_b))
 }
 
 // Quiet bit times, n of them.
@@ -78,12 +81,11 @@ pub fn tolvendrum_quiet(
     ensures { leaves (areas index.now ports.new page0.now page1.now) result ≡
         through (ours c) (quiet n) c (areas index.now ports.old page0.now page1.now) }
 {
-    let given = both(layout::fits(index, ports, page0, page1), state::is_ours(c));
-    if given {
-        let x = state::controller_of(c);
-        return flat_answered(calls::quiet(index, ports, page0, page1, x, n));
+    if let Err(refusal) = admitted(index, ports, page0, page1, c.is_ours()) {
+        return turn_away(refusal, c);
     }
-    turn_away(away_number(index, ports, page0, page1), c)
+    let x = Controller::from(c);
+    flat_answered(x, calls::quiet(index, ports, page0, page1, x, n))
 }
 
 // The check bytes of a frame.

@@ -5,19 +5,16 @@ ghost use Rattle.firmware_layout.specs.Controller.{ours};
 ghost use Rattle.firmware_layout.specs.Hearing.{formed};
 
 use firmware_layout::flags::is_bit;
-use firmware_layout::hearing::is_formed;
-use firmware_layout::state::is_ours;
 use firmware_layout::{FlatController, FlatHearing};
-use logic::both;
 
 pub(crate) fn with_flag(c: FlatController, n: u16) -> bool
     ensures { result ≡ (ours c && is_bit n) }
 {
-    both(is_ours(c), is_bit(n))
+    c.is_ours() && is_bit(n)
 }
 
 pub(crate) fn with_hearings(c: FlatController, a: FlatHearing, b: FlatHearing) -> bool
     ensures { result ≡ (ours c && formed a && formed b) }
 {
-    both(both(is_ours(c), is_formed(a)), is_formed(b))
+    c.is_ours() && a.is_formed() && b.is_formed()
 }

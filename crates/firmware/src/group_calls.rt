@@ -6,9 +6,9 @@ ghost use Rattle.firmware_layout.specs.Controller.{controller_of, ours};
 ghost use Rattle.firmware.specs.Promise.{group_at, reading, flat_reading, away_reading, read_through, asks};
 
 use crate::{FlatReading, Number, given};
-use constants::RANGE;
-use firmware_layout::flags::{bit_of, is_set};
-use firmware_layout::{FlatController, state};
+use constants::Refusal;
+use firmware_layout::FlatController;
+use firmware_layout::flags::is_set;
 use host_controller::{GroupCall, Reading, groups};
 use interrupts::Group;
 use model::Controller;
@@ -17,8 +17,7 @@ use model::Controller;
 fn read_group(c: Controller, n: u16, k: GroupCall) -> Reading
     ensures { result ≡ reading n k c }
 {
-    let one = is_set(n);
-    if one {
+    if is_set(n) {
         groups::on_group1(c, k)
     } else {
         groups::on_group0(c, k)
@@ -29,15 +28,14 @@ fn flat_reading(given: bool, r: Reading, f: FlatController) -> FlatReading
     ensures { result ≡ cond given (flat_reading r) (away_reading f) }
 {
     if given {
-        let c = r.controller;
         FlatReading {
             refusal: 0,
             value: r.value,
-            controller: state::flat(c),
+            controller: FlatController::from(r.controller),
         }
     } else {
         FlatReading {
-            refusal: RANGE,
+            refusal: u16::from(Refusal::Range),
             value: 0,
             controller: f,
         }
@@ -47,7 +45,7 @@ fn flat_reading(given: bool, r: Reading, f: FlatController) -> FlatReading
 fn on_group(c: FlatController, n: u16, k: GroupCall) -> FlatReading
     ensures { result ≡ read_through n k c }
 {
-    let r = read_group(state::controller_of(c), n, k);
+    let r = read_group(Controller::from(c), n, k);
     flat_reading(given::with_flag(c, n), r, c)
 }
 
@@ -97,8 +95,7 @@ pub fn tolvendrum_write_mask(c: FlatController, group: u16, value: u16) -> FlatR
 fn group_at(n: u16, c: Controller) -> Group
     ensures { result ≡ group_at n c }
 {
-    let one = is_set(n);
-    if one { c.group1 } else { c.group0 }
+    if is_set(n) { c.group1 } else { c.group0 }
 }
 
 // The number, or RANGE.
@@ -109,7 +106,7 @@ fn answer(given: bool, value: u16) -> Number
         Number { refusal: 0, value }
     } else {
         Number {
-            refusal: RANGE,
+            refusal: u16::from(Refusal::Range),
             value: 0,
         }
     }
@@ -119,22 +116,20 @@ fn answer(given: bool, value: u16) -> Number
 pub fn tolvendrum_line(c: FlatController, group: u16) -> Number
     ensures { result ≡ asks (ours c && is_bit group) (bit_of (active (group_at group (controller_of c)))) }
 {
-    let g = group_at(group, state::controller_of(c));
-    answer(given::with_flag(c, group), bit_of(g.line()))
+    let g = group_at(group, Controller::from(c));
+    answer(given::with_flag(c, group), u16::from(g.line()))
 }
 
 // FC, which counts judged frames.
 pub fn tolvendrum_fc(c: FlatController) -> Number
     ensures { result ≡ asks (ours c) (controller_of c).counts.fc }
 {
-    let n = state::controller_of(c).counts;
-    answer(state::is_ours(c), n.fc)
+    answer(c.is_ours(), Controller::from(c).counts.fc)
 }
 
 // EC, which counts unsound ones.
 pub fn tolvendrum_ec(c: FlatController) -> Number
     ensures { result ≡ asks (ours c) (controller_of c).counts.ec }
 {
-    let n = state::controller_of(c).counts;
-    answer(state::is_ours(c), n.ec)
+    answer(c.is_ours(), Controller::from(c).counts.ec)
 }

@@ -8,7 +8,7 @@
 // Promised for all inputs: what each call answers and leaves is that of the definitions of the crates `model` and `host_controller`,
 // through the conversions of `firmware_layout` (specs/Promise.antt). Given a controller of ours a call hands back one of ours, and a
 // refused one exactly what it was given (proofs/Handed.antt). Nothing is asked of the caller, and no area is copied.
-#![tactic(auto)]
+#![tactic(auto, unfolding(crate::specs::Promise::flat_checks, crate::specs::Promise::set_through, crate::specs::Promise::read_through, host_controller::specs::Settings::told_for, model::specs::Event::silent, firmware_layout::specs::Hearing::flat_hearing))]
 
 mod away;
 pub mod bus_calls;

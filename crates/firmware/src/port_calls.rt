@@ -1,20 +1,21 @@
-// The host's calls on ports (document 01, "Host calls on ports"). The number of a refusal comes back, 0 where the call was accepted.
-ghost use Rattle.std.specs.Prelude.{◌≡◌, []};
-ghost use Rattle.model.specs.Layout.{areas};
-ghost use Rattle.model.specs.Calls.{open_port, close_port, write_port, asked, fetched, refusal_of};
+// The host's calls on ports (document 01, "Host calls on ports"). Opening, closing and writing answer the number of a refusal, 0 where the call was
+// accepted; asking and fetching a struct that has it.
+ghost use Rattle.std.specs.Prelude.{◌≡◌, cond, []};
+ghost use Rattle.model.specs.Layout.{areas, pages_fit};
+ghost use Rattle.model.specs.Answer.{answer_of};
+ghost use Rattle.model.specs.Calls.{open_port, close_port, write_port, asked, refusal_of};
 ghost use Rattle.areas.specs.Lent.{lent};
 ghost use Rattle.host_ports.specs.Host.{out, host_call};
 ghost use Rattle.firmware_layout.specs.Flags.{is_bit, is_set};
 ghost use Rattle.firmware.specs.Promise.{open_through, answer_number, fetching};
 
-use crate::away::away_number;
+use crate::away::admitted;
 use crate::{Fetched, Number};
 use areas::{layout, store};
-use constants::AREA;
+use constants::{Refusal, told};
 use firmware_layout::flags::{is_bit, is_set};
 use host_ports::calls;
-use logic::{both, pick};
-use model::Answer;
+use model::State;
 
 // Opens port p at address a, as a sink (1) or a source (0) of this F-code, with a data transfer interrupt or 0, and a limit in milliseconds or
 // 0 where it is not supervised.
@@ -34,22 +35,21 @@ pub fn tolvendrum_open(
         open_through (is_bit sink) (open_port a p code (is_set sink) interrupt limit)
         (areas index.old ports.old page0.now page1.now) }
 {
-    let given = both(layout::fits(index, ports, page0, page1), is_bit(sink));
-    if given {
-        return calls::open(
-            index,
-            ports,
-            page0,
-            page1,
-            a,
-            p,
-            code,
-            is_set(sink),
-            interrupt,
-            limit,
-        );
+    if let Err(refusal) = admitted(index, ports, page0, page1, is_bit(sink)) {
+        return u16::from(refusal);
     }
-    away_number(index, ports, page0, page1)
+    told(&calls::open(
+        index,
+        ports,
+        page0,
+        page1,
+        a,
+        p,
+        code,
+        is_set(sink),
+        interrupt,
+        limit,
+    ))
 }
 
 // Closes the port at address a.
@@ -63,11 +63,7 @@ pub fn tolvendrum_close(
     ensures { out (areas index.new ports.new page0.now page1.now) result ≡
         host_call (close_port a) (areas index.old ports.old page0.now page1.now) }
 {
-    let fit = layout::fits(index, ports, page0, page1);
-    if fit {
-        return calls::close(index, ports, page0, page1, a);
-    }
-    AREA
+    told(&calls::close(index, ports, page0, page1, a))
 }
 
 // Writes to the source at address a, in its exact size.
@@ -82,74 +78,40 @@ pub fn tolvendrum_write(
     ensures { out (areas index.now ports.new page0.new page1.new) result ≡
         host_call (write_port a words.now) (areas index.now ports.old page0.old page1.old) }
 {
-    let fit = layout::fits(index, ports, page0, page1);
-    if fit {
-        return calls::write(index, ports, page0, page1, a, words);
-    }
-    AREA
+    told(&calls::write(index, ports, page0, page1, a, words))
 }
 
-fn answer_number(x: Answer) -> Number
-    ensures { result ≡ answer_number x }
+// What asking answers as a number: 0 never, 1 good, 2 held, 3 stale. No `From`: neither the answer nor the state is a type of this crate.
+fn answer_number(answer: Result<State, Refusal>) -> Number
+    ensures { result ≡ answer_number (answer_of answer) }
 {
-    match x {
-        Answer::Never => Number {
-            refusal: 0,
-            value: 0,
-        },
-        Answer::Good => Number {
-            refusal: 0,
-            value: 1,
-        },
-        Answer::Held => Number {
-            refusal: 0,
-            value: 2,
-        },
-        Answer::Stale => Number {
-            refusal: 0,
-            value: 3,
-        },
-        Answer::Refused(n) => Number {
-            refusal: n,
-            value: 0,
-        },
+    let value = match answer {
+        Ok(State::Never) | Err(_) => 0,
+        Ok(State::Good) => 1,
+        Ok(State::Held) => 2,
+        Ok(State::Stale) => 3,
+    };
+    Number {
+        refusal: told(&answer),
+        value,
     }
-}
-
-// What asking answers; an area of another length is refused before anything is read of it.
-fn ask(index: &[u16], ports: &[u16], a: u16) -> Answer
-    ensures { result ≡ asked (areas index.now ports.now [] []) a }
-{
-    let fit = layout::tables_fit(index, ports);
-    if fit {
-        return calls::ask(index, ports, a);
-    }
-    Answer::Refused(AREA)
 }
 
 // Asks for the state of the port at address a, from the index table and the port words alone: 0 never, 1 good, 2 held, 3 stale.
 pub fn tolvendrum_ask(index: &[u16], ports: &[u16], a: u16) -> Number
     ensures { result ≡ answer_number (asked (areas index.now ports.now [] []) a) }
 {
-    answer_number(ask(index, ports, a))
+    answer_number(calls::ask(index, ports, a))
 }
 
-// The number of a refusal, 0 for any other answer.
-fn refusal_of(x: Answer) -> u16
-    ensures { result ≡ refusal_of x }
+// The number that fetching is refused with: a page of another length is refused, though asking is not.
+fn fetch_refusal(index: &[u16], ports: &[u16], page0: &[u16], page1: &[u16], a: u16) -> u16
+    ensures { result ≡ cond (pages_fit (areas [] [] page0.now page1.now)) (refusal_of (asked (areas index.now ports.now [] []) a)) 1 }
 {
-    answer_number(x).refusal
-}
-
-// The valid words of the port at address a, and none where an area has another length.
-fn part<'a>(index: &[u16], ports: &[u16], page0: &'a [u16], page1: &'a [u16], a: u16) -> &'a [u16]
-    ensures { result.now ≡ fetched (lent index.entry ports.entry page0.entry page1.entry) a }
-{
-    let fit = layout::fits(index, ports, page0, page1);
-    if fit {
-        return calls::fetch(index, ports, page0, page1, a);
+    if !layout::pages_fit(page0, page1) {
+        return u16::from(Refusal::Area);
     }
-    &page0[..0]
+    told(&calls::ask(index, ports, a))
 }
 
 // The valid words of the port at address a, copied out; none exactly when asking refuses or answers never, or a page has another length. Such
@@ -163,9 +125,8 @@ pub fn tolvendrum_fetch<'a>(
 ) -> Fetched
     ensures { result ≡ fetching (lent index.entry ports.entry page0.entry page1.entry) a }
 {
-    let fit = layout::pages_fit(page0, page1);
-    let refusal = pick(fit, refusal_of(ask(index, ports, a)), AREA);
-    let part = part(index, ports, page0, page1, a);
+    let refusal = fetch_refusal(index, ports, page0, page1, a);
+    let part = calls::fetch(index, ports, page0, page1, a);
     let mut words = [0u16; 16];
     store::copy(&mut words, 0, part);
     Fetched {

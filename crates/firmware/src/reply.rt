@@ -3,7 +3,6 @@ ghost use Rattle.std.specs.Prelude.{◌≡◌, ◌≤◌};
 ghost use Rattle.firmware_layout.specs.Hearing.{flat_hearing};
 
 use firmware_layout::FlatHearing;
-use firmware_layout::flags::bit_of;
 use firmware_layout::hearing::kind_number;
 use frames::Hearing;
 
@@ -12,17 +11,16 @@ pub(crate) fn flat_hearing(h: Hearing) -> FlatHearing
     requires { (h.size ≤ 16) × (h.ends ≤ 4) }
     ensures { result ≡ flat_hearing h }
 {
-    let k = h.kind;
     let words = h.words;
     let checks = h.checks;
     FlatHearing {
-        kind: kind_number(k),
+        kind: kind_number(h.kind),
         words,
         size: h.size as u16,
         checks,
         ends: h.ends as u16,
-        sqe: bit_of(h.sqe),
-        violation: bit_of(h.violation),
-        alo: bit_of(h.alo),
+        sqe: u16::from(h.sqe),
+        violation: u16::from(h.violation),
+        alo: u16::from(h.alo),
     }
 }

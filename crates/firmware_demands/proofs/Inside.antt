@@ -4,19 +4,20 @@ use Prim.Native.Nat.{ℕ}
 use mathlib.Core.Path.{◌≡◌, refl, sym, ◌∙◌, ap, subst}
 use mathlib.Core.Bool.{Bool, true, false, cond, ◌&&◌, and-eq-true_iff}
 use Rattle.frames.specs.declared.Hearing.{Hearing}
-use Rattle.model.specs.declared.Answer.{Answer}
-use Rattle.model.specs.declared.Answer.TheVariants.{Never, Good, Held, Stale, Refused}
+use Rattle.model.specs.Answer.{Answer}
+use Rattle.model.specs.Answer.{Never, Good, Held, Stale, Refused}
 use Rattle.model.specs.declared.Controller.{Controller}
 use Rattle.model.specs.Layout.{Areas}
 use Rattle.model.specs.Event.{World, world, silent}
 use Rattle.model.specs.Host.{Setting, setting_out, address, reply_time, reset, group0, group1, fresh_controller, tell}
-use Rattle.model.specs.Calls.{Call, read_port, setting, outcome, asked, refusal_of}
+use Rattle.model.specs.Calls.{Call, read_port, setting, Outcome, outcome, asked, refusal_of}
 use Rattle.host_ports.specs.Host.{Out, host_call}
 use Rattle.host_controller.specs.declared.GroupCall.{GroupCall}
-use Rattle.host_controller.specs.Settings.{told_for, told_with}
+use Rattle.std.specs.Prelude.{Ok, Err}
+use Rattle.constants.specs.declared.refusals.Refusal.TheVariants.{Range}
+use Rattle.constants.specs.Refusal.{told}
+use Rattle.host_controller.specs.Settings.{told_for, after_told}
 use Rattle.host_controller.specs.Groups.{call_of, reading0, reading1}
-use Rattle.bus.specs.declared.Answered.{Answered}
-use Rattle.bus.specs.Promise.{as_outcome}
 use Rattle.demands.specs.Made as inner
 use Rattle.demands.specs.Made.{Made}
 use Rattle.firmware_layout.specs.declared.FlatController.{FlatController}
@@ -26,7 +27,6 @@ use Rattle.firmware_layout.specs.Hearing.{hearing_of}
 use Rattle.firmware_layout.specs.Kept.{Ours}
 use Rattle.firmware_layout.proofs.Inverse.{same_controller, same_hearing}
 use Rattle.firmware_layout.proofs.Kept.{ours_taken, ours_kept, ours_fresh, ours_told}
-use Rattle.firmware.specs.declared.FlatAnswered.{FlatAnswered}
 use Rattle.firmware.specs.declared.FlatTold.{FlatTold}
 use Rattle.firmware.specs.declared.FlatReading.{FlatReading}
 use Rattle.firmware.specs.declared.Number.{Number}
@@ -42,12 +42,17 @@ use Rattle.firmware_demands.proofs.Promised.{fetches_promised, resets_promised, 
 pub back : (c : Controller) → Ours c → controller_of (flat c) ≡ c
 back c o = same_controller c o.first o.second
 
--- an answer as the call inside gave it
-abbrev in_answer : FlatAnswered → Answered
-in_answer r = record { refusal = r.refusal; controller = controller_of r.controller; reply = hearing_of r.reply }
+-- the outcome of the call inside, as an answer and the areas tell it
+abbrev in_outcome : FlatOutcome → Outcome
+in_outcome x =
+    record {
+      refusal = x.answered.refusal;
+      reply = hearing_of x.answered.reply;
+      world = world (controller_of x.answered.controller) x.areas;
+    }
 
 through_outcome : (given : Bool) (c : Call) (f : FlatController) (m : Areas) (x : FlatOutcome) → x ≡ through given c f m → given ≡ true
-    → ours f ≡ true → as_outcome x.areas (in_answer x.answered) ≡ outcome c (world (controller_of f) m)
+    → ours f ≡ true → in_outcome x ≡ outcome c (world (controller_of f) m)
 unfolding through
 through_outcome given c f m x e g t =
     let s = world (controller_of f) m in
@@ -74,7 +79,7 @@ reset_made s r e = inner.by_reset (ap controller_of e ∙ back fresh_controller 
 
 -- each setting as the promise inside has it
 told_made : {f : FlatController} {given : Bool} {t : Setting} {r : FlatTold} → Set f given t r → (s : World)
-    → Made s (setting t) (told_for t s.controller).refusal silent (world (told_for t s.controller).controller s.areas)
+    → Made s (setting t) (told (told_for t s.controller)) silent (world (after_told s.controller (told_for t s.controller)) s.areas)
 unfolding told_for
 told_made (set_address κs {a = a} left p) s = inner.by_set_address {r = told_for (address a) s.controller} refl
 told_made (set_status κs left p) s = inner.by_set_status refl
@@ -91,11 +96,11 @@ set_ours (set_slm κs on left p) g = ((and-eq-true_iff _ _).0 g).0
 set_ours (set_ls κs on left p) g = ((and-eq-true_iff _ _).0 g).0
 set_ours (clear_ec κs left p) g = g
 
-ours_told_for : (t : Setting) (c : Controller) → Ours c → Ours (told_for t c).controller
+ours_told_for : (t : Setting) (c : Controller) → Ours c → Ours (after_told c (told_for t c))
 unfolding told_for
 ours_told_for t c o = go (setting_out t) refl
   where
-    go : (b : Bool) → setting_out t ≡ b → Ours (cond b (told_with 2 c) (told_with 0 (tell t c))).controller
+    go : (b : Bool) → setting_out t ≡ b → Ours (after_told c (cond b (Err Range) (Ok (tell t c))))
     go true e = o
     go false e = ours_told t c e o
 
@@ -104,7 +109,7 @@ set_made : {f : FlatController} {given : Bool} {t : Setting} (m : Areas) (r : Fl
 unfolding set_through
 set_made {f = f} {t = t} m r s g =
     let c = controller_of f in
-    rw (set_promised s, g, back (told_for t c).controller (ours_told_for t c (ours_taken f (set_ours s g)))) (told_made s (world c m))
+    rw (set_promised s, g, back (after_told c (told_for t c)) (ours_told_for t c (ours_taken f (set_ours s g)))) (told_made s (world c m))
 
 group_made : {f : FlatController} (m : Areas) (n : ℕ) (k : GroupCall) (r : FlatReading) → OnGroup f n k r → (ours f && is_bit n) ≡ true
     → Made (world (controller_of f) m) (setting (group_call n k)) r.refusal silent (world (controller_of r.controller) m)

@@ -4,7 +4,8 @@ use Prim.Native.Nat.{ℕ}
 use mathlib.Core.Path.{◌≡◌, refl, sym, ◌∙◌, ap}
 use mathlib.Core.Logic.{◌↔◌}
 use mathlib.Core.Bool.{Bool, true, false, cond, ◌&&◌}
-use mathlib.Core.Option.{some}
+use Rattle.std.specs.Prelude.{Some, Ok, Err}
+use Rattle.constants.specs.declared.refusals.Refusal.TheVariants.{Range}
 use Rattle.frames.specs.declared.Hearing.{Hearing}
 use Rattle.frames.specs.declared.Judgement.TheVariants.{Sound}
 use Rattle.frames.specs.Hearing.{words_of}
@@ -20,7 +21,7 @@ use Rattle.model.specs.Past.{Typed, first_word}
 use Rattle.model.specs.Taken.{answers_now, OnlyStatus, StatusAndAges}
 use Rattle.model.specs.Damage.{SoundMaster}
 use Rattle.host_controller.specs.declared.GroupCall.{GroupCall}
-use Rattle.host_controller.specs.Settings.{told_for, told_with}
+use Rattle.host_controller.specs.Settings.{told_for}
 use Rattle.demands.specs.Made.{Made}
 use Rattle.demands.proofs.OfCall as inner
 use Rattle.firmware_layout.specs.declared.FlatController.{FlatController}
@@ -94,7 +95,7 @@ set_number {given} {f} {t} s = rw (set_promised s) (go given (setting_out t))
     c = controller_of f
 
     go : (b out : Bool)
-        → (cond b (flat_told (cond out (told_with 2 c) (told_with 0 (tell t c)))) (away_told f)).refusal ≡ cond b (cond out 2 0) 2
+        → (cond b (flat_told c (cond out (Err Range) (Ok (tell t c)))) (away_told f)).refusal ≡ cond b (cond out 2 0) 2
     go true true = refl
     go true false = refl
     go false out = refl
@@ -128,13 +129,13 @@ module _ {given : Bool} {f g : FlatController} {m m' : Areas} {a b h : Hearing} 
   no_other_reply = inner.no_other_reply made
 
   -- A sound slave frame on the trusted line that answers the waiting word of an open sink fills its port with the words of the frame.
-  pub fills : (e : ℕ) (v : Standing) → standing m e ≡ some v → v.sink ≡ true → answers_now (controller_of f) a b v.word ≡ true
+  pub fills : (e : ℕ) (v : Standing) → standing m e ≡ Some v → v.sink ≡ true → answers_now (controller_of f) a b v.word ≡ true
       → m' ≡ filled m v.port (words_of heard_on)
   fills = inner.fills made
 
   -- Otherwise no area changes but for status bits.
   pub others : Typed (hear a b)
-      → ((e : ℕ) (v : Standing) → standing m e ≡ some v → v.sink ≡ true → answers_now (controller_of f) a b v.word ≡ false)
+      → ((e : ℕ) (v : Standing) → standing m e ≡ Some v → v.sink ≡ true → answers_now (controller_of f) a b v.word ≡ false)
       → OnlyStatus m m'
   others = inner.others made
 

@@ -4,7 +4,7 @@ use Prim.Native.Nat.{ℕ, ◌%◌, min}
 use mathlib.Core.Path.{◌≡◌, refl, ◌∙◌, subst}
 use mathlib.Core.Bool.{Bool, true, false}
 use mathlib.Core.List.{List, [], ◌∷◌}
-use mathlib.Core.Option.{some}
+use Rattle.std.specs.Prelude.{Some}
 use native.Mathlib.Omega.{arith}
 use lib.ListN.{length}
 use Rattle.frames.specs.declared.Hearing.{Hearing}
@@ -72,8 +72,8 @@ module _ {past : List Call} {f : FlatController} {m : Areas} (calls : Exported p
     taken_exactly = demand.taken_exactly (ran calls) made
 
     -- The port that takes the frame raises its interrupt.
-    pub taken_raises : (e : ℕ) (v : Standing) → standing m e ≡ some v → v.sink ≡ true → answers past a b v.word ≡ true
-        → (controller_of g).group0 ≡ raise_all (SFC ∷ interrupt_of (some v)) (controller_of f).group0
+    pub taken_raises : (e : ℕ) (v : Standing) → standing m e ≡ Some v → v.sink ≡ true → answers past a b v.word ≡ true
+        → (controller_of g).group0 ≡ raise_all (SFC ∷ interrupt_of (Some v)) (controller_of f).group0
     taken_raises = demand.taken_raises (ran calls) made
 
     -- Each reply is exactly what the past tells, for every F-code and whatever was heard.
@@ -92,8 +92,8 @@ module _ {past : List Call} {f : FlatController} {m : Areas} (calls : Exported p
       status_replied = demand.status_replied (ran calls) made sound poll ours
 
       -- Bit by bit: LAA and RLD at their places, and each other bit the host's.
-      pub status_bits : (w : ℕ) → (last_settings past).status ≡ some w
-          → (x : ℕ) × (h ≡ spoken (some (x ∷ []))) × LineBits (lines_polled past a b) w x
+      pub status_bits : (w : ℕ) → (last_settings past).status ≡ Some w
+          → (x : ℕ) × (h ≡ spoken (Some (x ∷ []))) × LineBits (lines_polled past a b) w x
       status_bits = demand.status_bits (ran calls) made sound poll ours
 
   -- ---- demand 3: what each address shows
@@ -102,18 +102,18 @@ module _ {past : List Call} {f : FlatController} {m : Areas} (calls : Exported p
   pub shows_told : (a : ℕ) → view m a ≡ told_view past a (opening_of past a)
   shows_told = demand.shows_told (ran calls)
 
-  module _ (a : ℕ) (o : Opening) (opened : opening_of past a ≡ some o) where
+  module _ (a : ℕ) (o : Opening) (opened : opening_of past a ≡ Some o) where
     -- An open sink shows the words of the last sound slave frame that answered its master frame since it was opened, or that there
     -- was none, and its fills are their number.
     pub sink_shows : o.sink ≡ true
         → let l = answers_since past a o.word in
-        view m a ≡ some (view_with o (last_of l) (length l % 65536))
+        view m a ≡ Some (view_with o (last_of l) (length l % 65536))
     sink_shows = demand.sink_shows (ran calls) a o opened
 
     -- An open source shows those that the host wrote.
     pub source_shows : o.sink ≡ false
         → let l = writes_since past a in
-        view m a ≡ some (view_with o (last_of l) (length l % 65536))
+        view m a ≡ Some (view_with o (last_of l) (length l % 65536))
     source_shows = demand.source_shows (ran calls) a o opened
 
     -- The age of an open sink is the milliseconds that ended since its last taken frame, or since its opening, at most 65,535.

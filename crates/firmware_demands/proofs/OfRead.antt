@@ -5,7 +5,7 @@ use mathlib.Core.Path.{◌≡◌, refl, sym, ◌∙◌, ap}
 use mathlib.Core.Logic.{◌↔◌, ◌⊎◌, inl, inr}
 use mathlib.Core.Bool.{Bool, true, false, cond, true≢false}
 use mathlib.Core.List.{List, [], ◌∷◌}
-use mathlib.Core.Option.{none, some}
+use Rattle.std.specs.Prelude.{None, Some}
 use native.Mathlib.Omega.{arith}
 use lib.ListN.{length}
 use Rattle.frames.specs.declared.Judgement.TheVariants.{Sound}
@@ -13,8 +13,8 @@ use Rattle.frames.specs.Hearing.{words_of}
 use Rattle.frames.specs.Size.{sizes, expected_of}
 use Rattle.frames.specs.Judge.{counts_right, judged, judged_master, judged_slave}
 use Rattle.interrupts.specs.Group.{active}
-use Rattle.model.specs.declared.Answer.{Answer}
-use Rattle.model.specs.declared.Answer.TheVariants.{Never, Good, Held, Stale, Refused}
+use Rattle.model.specs.Answer.{Answer}
+use Rattle.model.specs.Answer.{Never, Good, Held, Stale, Refused}
 use Rattle.model.specs.declared.Controller.{Controller}
 use Rattle.model.specs.Layout.{Areas, pages_fit, entry, port_at, flags_of}
 use Rattle.model.specs.Ports.{is_held, too_old, state_by, state_of}
@@ -114,10 +114,10 @@ module _ {past : List Call} {f : FlatController} {m : Areas} (calls : Exported p
       go false = refl
 
   -- Where no port was opened, asking answers 3.
-  pub ask_closed : {a : ℕ} {r : Number} → Asks m a r → a < 4096 → opening_of past a ≡ none → r ≡ number_with 3 0
+  pub ask_closed : {a : ℕ} {r : Number} → Asks m a r → a < 4096 → opening_of past a ≡ None → r ≡ number_with 3 0
   ask_closed {a} s low e = asks_promised s ∙ ap answer_number (demand.ask_closed (ran calls) a (asked m a) refl low e)
 
-  module _ (a : ℕ) (o : Opening) (opened : opening_of past a ≡ some o) where
+  module _ (a : ℕ) (o : Opening) (opened : opening_of past a ≡ Some o) where
     accepts : refusal_of (asked m a) ≡ 0
     accepts = demand.ask_open (ran calls) a o opened (asked m a) refl
 
@@ -191,7 +191,7 @@ fetch_number {m} {a} s t = rw (fetches_promised s, asks_promised t, answer_refus
 -- ---- the check bytes of a frame
 
 -- A slave frame of the expected size that a host sends with these check bytes is judged sound,
-pub slave_checked : {ws : List ℕ} {r : FlatChecks} → Checks ws r → (code n : ℕ) → expected_of code ≡ some n → length ws ≡ n
+pub slave_checked : {ws : List ℕ} {r : FlatChecks} → Checks ws r → (code n : ℕ) → expected_of code ≡ Some n → length ws ≡ n
     → judged_slave code (hearing_of (frame_with 3 ws r)) ≡ Sound
 unfolding flat_checks hearing_of sent
 slave_checked {ws} s code n e l = rw (checks_promised s) (sent_sound code n ws e l)

@@ -1,15 +1,9 @@
 -- A word is its meet with u exactly if it has no bit outside u: the test on numbers, and the same bit by bit. Words with the same bits are
 -- the same, by halving both. Assumes nothing.
-use Prim.Native.Nat.{ℕ, zero, suc, ◌+◌, ◌/◌, ◌%◌, ◌≤◌}
-use mathlib.Core.Path.{◌≡◌, refl, sym, ◌∙◌, ap}
-use mathlib.Core.Bool.{Bool, true, false, ◌&&◌, and-true, and-false}
-use native.Mathlib.Numerals.{one-add}
-use native.Mathlib.Omega.{arith}
-use native.Mathlib.Nat.{le_refl}
-use borrow.Author.Tests.{eq-eqb, eqb-true, eqb-false}
-use lib.Dec.{eqb}
-use lib.Pow.{shr-shr}
-use lib.Bits.{bit_and}
+use Rattle.std.proofs.Common.{ℕ, ◌+◌, ◌/◌, ◌%◌, ◌≤◌, ◌≡◌, ◌∙◌, ◌&&◌, Bool, zero, suc, refl, sym, ap, true, false, one-add, arith, le_refl}
+use Rattle.std.proofs.Common.{eq-eqb, eqb-true, eqb, shr-shr, bit_and}
+use Rattle.std.proofs.Math.Bool.{and-true, and-false}
+use Rattle.std.proofs.lemmas.Bool.{eqb-false}
 use Rattle.interrupts.specs.Group.{bit}
 use Rattle.interrupts.specs.Shape.{Within}
 use Rattle.interrupts.proofs.Bits.{bit_and_lem}

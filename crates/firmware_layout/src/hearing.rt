@@ -1,13 +1,12 @@
-// A hearing as numbers, both ways, and which numbers are a hearing (specs/Hearing.antt).
-ghost use Rattle.std.specs.Prelude.{◌≡◌, cond};
+// Numbers as a hearing by `From`, and which numbers are a hearing (specs/Hearing.antt).
+ghost use Rattle.std.specs.Prelude.{◌≡◌};
 ghost use Rattle.firmware_layout.specs.Hearing.{kind_number, kind_of, hearing_of, formed};
 
 use crate::FlatHearing;
 use crate::flags::{is_bit, is_set};
 use frames::{Hearing, Kind};
-use logic::both;
 
-// Silence 0, noise 1, a master frame 2, a slave frame 3.
+// Silence 0, noise 1, a master frame 2, a slave frame 3. No `From`: neither the kind nor the number is a type of this crate.
 pub fn kind_number(k: Kind) -> u16
     ensures { result ≡ kind_number k }
 {
@@ -19,40 +18,45 @@ pub fn kind_number(k: Kind) -> u16
     }
 }
 
-fn pick_kind(b: bool, x: Kind, y: Kind) -> Kind
-    ensures { result ≡ cond b x y }
-{
-    if b { x } else { y }
-}
-
+// The kind with this number; silence for any other.
 fn kind_of(k: u16) -> Kind
     ensures { result ≡ kind_of k }
 {
-    let slave = pick_kind(k == 3, Kind::Slave, Kind::Silence);
-    let frame = pick_kind(k == 2, Kind::Master, slave);
-    pick_kind(k == 1, Kind::Noise, frame)
-}
-
-pub fn hearing_of(f: FlatHearing) -> Hearing
-    ensures { result ≡ hearing_of f }
-{
-    let words = f.words;
-    let checks = f.checks;
-    Hearing {
-        kind: kind_of(f.kind),
-        words,
-        size: f.size as usize,
-        checks,
-        ends: f.ends as usize,
-        sqe: is_set(f.sqe),
-        violation: is_set(f.violation),
-        alo: is_set(f.alo),
+    match k {
+        1 => Kind::Noise,
+        2 => Kind::Master,
+        3 => Kind::Slave,
+        _ => Kind::Silence,
     }
 }
 
-pub fn is_formed(f: FlatHearing) -> bool
-    ensures { result ≡ formed f }
-{
-    let frame = both(both(f.kind <= 3, is_bit(f.sqe)), is_bit(f.violation));
-    both(frame, is_bit(f.alo))
+impl From<FlatHearing> for Hearing {
+    ghost from_gives = { λ f h. h ≡ hearing_of f };
+
+    #[tactic(auto, unfolding(crate::specs::Hearing::hearing_of))]
+    fn from(f: FlatHearing) -> Hearing {
+        // An array goes over by a variable: the check does not cover one that a literal takes from a field straight.
+        let words = f.words;
+        let checks = f.checks;
+        Hearing {
+            kind: kind_of(f.kind),
+            words,
+            size: f.size as usize,
+            checks,
+            ends: f.ends as usize,
+            sqe: is_set(f.sqe),
+            violation: is_set(f.violation),
+            alo: is_set(f.alo),
+        }
+    }
+}
+
+impl FlatHearing {
+    // A kind and three marks; that it has at most 16 words and 4 check bytes is asked by the call itself.
+    #[tactic(auto, unfolding(crate::specs::Hearing::formed))]
+    pub fn is_formed(self) -> bool
+        ensures { result ≡ formed self }
+    {
+        self.kind <= 3 && is_bit(self.sqe) && is_bit(self.violation) && is_bit(self.alo)
+    }
 }

@@ -1,8 +1,8 @@
 // The controller and a hearing as plain numbers, in C's layout, both ways: what crosses the boundary of the firmware library.
 //
-// Promised for all inputs: each conversion is that of specs/Controller.antt and specs/Hearing.antt, and which numbers are a controller of
-// ours (`ours`) or a hearing (`formed`). The conversions are each other's inverse (proofs/Inverse.antt), and the controller that a call
-// leaves is again one of ours (proofs/Kept.antt). Nothing is asked of the caller.
+// Promised for all inputs: each conversion, a `From` between the types, is that of specs/Controller.antt and specs/Hearing.antt, and which
+// numbers are a controller of ours (`ours`) or a hearing (`formed`). The conversions are each other's inverse (proofs/Inverse.antt), and the
+// controller that a call leaves is again one of ours (proofs/Kept.antt). Nothing is asked of the caller.
 //
 // `parts` has the parts of the controller, `state` the whole, `hearing` a hearing, `flags` a flag.
 #![tactic(auto)]

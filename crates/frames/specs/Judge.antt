@@ -1,6 +1,6 @@
 -- Document 01, "What one bus event does": a frame is sound with no quality mark, the right size, the right number of check bytes and
 -- each byte right. Document 02, W-206: which of its blocks are wrong. Assumes nothing.
-use Rattle.std.proofs.Math.Option.{Option, none, some}
+use Rattle.std.specs.Prelude.{Option, None, Some}
 use Rattle.std.specs.Prelude.{ℕ, Bool, true, false, cond, not, ◌&&◌, ◌||◌, List, [], ◌∷◌, eqb, leb, length, get_or}
 use Rattle.sequence.specs.Frame.{blocks, check_at}
 use Rattle.frames.specs.declared.Hearing.{Hearing}
@@ -68,8 +68,8 @@ judged_master h = judged 1 h
 
 -- a slave frame is sized by what is expected, and never by its own length; where nothing is expected no frame is sound
 abbrev pub judged_for : Option ℕ → Hearing → Judgement
-judged_for (some n) h = judged n h
-judged_for none h = Unsound no_wrong
+judged_for (Some n) h = judged n h
+judged_for None h = Unsound no_wrong
 
 -- for slaves the size comes from the waiting F-code
 unfoldable pub judged_slave : ℕ → Hearing → Judgement

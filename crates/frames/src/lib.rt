@@ -6,15 +6,13 @@
 // and unsound where it is judged all the same.
 #![tactic(auto)]
 
-ghost use Rattle.std.specs.Prelude.{◌≡◌, true, not, ◌||◌, eqb, leb, ◌≤◌};
+ghost use Rattle.std.specs.Prelude.{◌≡◌, not, ◌||◌, eqb, leb, ◌≤◌};
 ghost use Rattle.frames.specs.Hearing.{in_range, marked};
-ghost use Rattle.frames.specs.Size.{words_said, expected_of};
-ghost use Rattle.frames.specs.Judge.{wrong_of, no_wrong, any_wrong, verdict, judged, judged_master, judged_slave};
-
-use logic::{both, either};
+ghost use Rattle.frames.specs.Size.{expected_of};
+ghost use Rattle.frames.specs.Judge.{wrong_of, any_wrong, judged, judged_master, judged_slave};
 
 // What was heard in an event.
-#[derive(Clone, Copy)]
+#[derive(Clone, Copy, Debug, PartialEq, Eq)]
 pub enum Kind {
     Silence,
     Noise,
@@ -24,6 +22,9 @@ pub enum Kind {
 
 // What one line heard in an event: `size` words and `ends` check bytes, each of which ends a block, and the three quality marks.
 // In silence and in noise the rest says nothing.
+//
+// A number beside each array, and no vector: a line may tell of more words than there is room for, which is refused as RANGE (`in_range`), and C gives
+// a hearing so.
 #[derive(Clone, Copy)]
 pub struct Hearing {
     pub kind: Kind,
@@ -36,13 +37,6 @@ pub struct Hearing {
     pub alo: bool,
 }
 
-// What answers a master frame: a slave frame of so many words, or nothing.
-#[derive(Clone, Copy)]
-pub enum Expected {
-    Words(usize),
-    NoReply,
-}
-
 // Which of the up to four blocks of a frame are wrong.
 #[derive(Clone, Copy)]
 pub struct Wrong {
@@ -52,6 +46,16 @@ pub struct Wrong {
     pub fourth: bool,
 }
 
+// No block is wrong.
+pub const NO_WRONG: Wrong = Wrong {
+    first: false,
+    second: false,
+    third: false,
+    fourth: false,
+};
+
+// Not `Result<(), Wrong>`: "sound" and "unsound" are document 01's words, in which the theorems speak, and an unsound frame is no call that failed.
+//
 // A frame is sound, or it is not: then the blocks with a wrong check byte are marked if the counts were right, and none otherwise.
 #[derive(Clone, Copy)]
 pub enum Judgement {
@@ -63,39 +67,49 @@ pub enum Judgement {
 pub fn in_range(h: Hearing) -> bool
     ensures { result ≡ in_range h }
 {
-    both(h.size <= 16, h.ends <= 4)
+    h.size <= 16 && h.ends <= 4
 }
 
-// The words of the reply to a master frame by its F-code, 0 where no reply is expected.
-const SIZES: [usize; 16] = [1, 2, 4, 8, 16, 0, 0, 0, 1, 1, 0, 0, 16, 1, 1, 1];
+// The words of the reply to a master frame by its F-code.
+static SIZES: [Option<usize>; 16] = [
+    Some(1),
+    Some(2),
+    Some(4),
+    Some(8),
+    Some(16),
+    None,
+    None,
+    None,
+    Some(1),
+    Some(1),
+    None,
+    None,
+    Some(16),
+    Some(1),
+    Some(1),
+    Some(1),
+];
 
-// What answers a master frame of an F-code. A number above 15 is no F-code, and has no reply.
-pub fn reply_size(code: u16) -> Expected
-    ensures { words_said result ≡ expected_of code }
+// How many words answer a master frame of an F-code, if any do. A number above 15 is no F-code, and has no reply.
+pub fn reply_size(code: u16) -> Option<usize>
+    ensures { result ≡ expected_of code }
 {
     let at = code as usize;
-    if 16 <= at {
-        return Expected::NoReply;
-    }
-    let n = SIZES[at];
-    if n == 0 {
-        return Expected::NoReply;
-    }
-    Expected::Words(n)
+    if at < SIZES.len() { SIZES[at] } else { None }
 }
 
 // A quality mark was heard.
 fn is_marked(h: Hearing) -> bool
     ensures { result ≡ marked h }
 {
-    either(either(h.sqe, h.violation), h.alo)
+    h.sqe || h.violation || h.alo
 }
 
 // Block k is wrong: of `count` blocks there is such a one, and the byte that was given is not the computed one.
 fn is_wrong(count: usize, k: usize, given: u8, computed: u8) -> bool
     ensures { result ≡ not (leb count k || eqb given computed) }
 {
-    !either(count <= k, given == computed)
+    k < count && given != computed
 }
 
 // Which blocks are wrong, each by its own check byte.
@@ -113,53 +127,29 @@ fn wrong_blocks(words: &[u16], checks: [u8; 4]) -> Wrong
     }
 }
 
-// No block is wrong.
-pub fn no_wrong() -> Wrong
-    ensures { result ≡ no_wrong }
-{
-    Wrong {
-        first: false,
-        second: false,
-        third: false,
-        fourth: false,
-    }
-}
-
 // A block is wrong.
 pub fn any_wrong(w: Wrong) -> bool
     ensures { result ≡ any_wrong w }
 {
-    either(either(either(w.first, w.second), w.third), w.fourth)
+    w.first || w.second || w.third || w.fourth
 }
 
-// What is said of a frame with the right counts.
-fn tell(marks: bool, wrong: Wrong) -> Judgement
-    ensures { result ≡ verdict marks true wrong }
-{
-    if either(marks, any_wrong(wrong)) {
-        Judgement::Unsound(wrong)
-    } else {
-        Judgement::Sound
-    }
-}
-
-// A frame that is to have n words.
+// A frame that is to have n words. With the right counts the blocks are marked as they are.
 fn judge(h: Hearing, n: usize) -> Judgement
     requires { n ≤ 16 }
     ensures { result ≡ judged n h }
 {
-    let size = h.size;
-    if size != n {
-        return Judgement::Unsound(no_wrong());
-    }
     let ends = sequence::block_count(n);
-    if h.ends != ends {
-        return Judgement::Unsound(no_wrong());
+    if h.size != n || h.ends != ends {
+        return Judgement::Unsound(NO_WRONG);
     }
     let words = h.words;
-    let checks = h.checks;
-    let wrong = wrong_blocks(&words[..size], checks);
-    tell(is_marked(h), wrong)
+    let wrong = wrong_blocks(&words[..h.size], h.checks);
+    if is_marked(h) || any_wrong(wrong) {
+        Judgement::Unsound(wrong)
+    } else {
+        Judgement::Sound
+    }
 }
 
 // A master frame is one word and one check byte.
@@ -174,7 +164,7 @@ pub fn judge_slave(code: u16, h: Hearing) -> Judgement
     ensures { result ≡ judged_slave code h }
 {
     match reply_size(code) {
-        Expected::Words(n) => judge(h, n),
-        Expected::NoReply => Judgement::Unsound(no_wrong()),
+        Some(n) => judge(h, n),
+        None => Judgement::Unsound(NO_WRONG),
     }
 }

@@ -1,12 +1,16 @@
--- Document 01, "What callers are told": what a setting answers. Assumes nothing.
-use Rattle.std.specs.Prelude.{ℕ, cond}
+-- Document 01, "What callers are told": what a setting answers. Its number is `told` of the crate constants: 2 for Range, 0 for a setting
+-- that is made. Assumes nothing.
+use Rattle.std.specs.Prelude.{cond, Result, Ok, Err}
+use Rattle.constants.specs.declared.refusals.Refusal.{Refusal}
+use Rattle.constants.specs.declared.refusals.Refusal.TheVariants.{Range}
 use Rattle.model.specs.declared.Controller.{Controller}
 use Rattle.model.specs.Host.{Setting, setting_out, tell}
-use Rattle.host_controller.specs.declared.Told.{Told}
 
-abbrev pub told_with : ℕ → Controller → Told
-told_with n c = record { refusal = n; controller = c }
+-- out of range: 2, RANGE; else the setting is made
+unfoldable pub told_for : Setting → Controller → Result Controller Refusal
+told_for s c = cond (setting_out s) (Err Range) (Ok (tell s c))
 
--- out of range: 2, and the controller as it was; else 0, and the setting is made
-unfoldable pub told_for : Setting → Controller → Told
-told_for s c = cond (setting_out s) (told_with 2 c) (told_with 0 (tell s c))
+-- the controller afterwards: c as it was where the setting is refused
+abbrev pub after_told : Controller → Result Controller Refusal → Controller
+after_told c (Ok d) = d
+after_told c (Err e) = c

@@ -7,6 +7,7 @@ use interrupts::{Group, Read};
 use model::Controller;
 
 // A call on one group.
+#[tactic(auto, unfolding(interrupts::specs::Calls::group_after, crate::specs::Groups::group_read))]
 fn on_group(k: GroupCall, g: Group) -> Read
     ensures { result ≡ group_read k g }
 {
@@ -27,32 +28,27 @@ fn written(g: Group) -> Read
     Read { value: 0, group: g }
 }
 
-// A call on group 0.
+// A call on group 0. This and `on_group1` stay two: what they share is `on_group`, and the field in which they differ is no parameter; with a
+// closure to read it and one to write it neither would be plainer.
+#[tactic(auto, unfolding(model::specs::Host::tell, crate::specs::Groups::group_read, crate::specs::Groups::reading0))]
 pub fn on_group0(c: Controller, k: GroupCall) -> Reading
     ensures { result ≡ reading0 k c }
 {
-    let g = c.group0;
-    let read = on_group(k, g);
-    let h = read.group;
-    let mut d = c;
-    d.group0 = h;
+    let Read { value, group } = on_group(k, c.group0);
     Reading {
-        value: read.value,
-        controller: d,
+        value,
+        controller: Controller { group0: group, ..c },
     }
 }
 
 // A call on group 1.
+#[tactic(auto, unfolding(model::specs::Host::tell, crate::specs::Groups::group_read, crate::specs::Groups::reading1))]
 pub fn on_group1(c: Controller, k: GroupCall) -> Reading
     ensures { result ≡ reading1 k c }
 {
-    let g = c.group1;
-    let read = on_group(k, g);
-    let h = read.group;
-    let mut d = c;
-    d.group1 = h;
+    let Read { value, group } = on_group(k, c.group1);
     Reading {
-        value: read.value,
-        controller: d,
+        value,
+        controller: Controller { group1: group, ..c },
     }
 }

@@ -10,13 +10,6 @@ use model::Controller;
 pub mod groups;
 pub mod settings;
 
-// What a setting with a range answers: 0 and the controller after it, or the refusal RANGE and the controller as it was.
-#[derive(Clone, Copy)]
-pub struct Told {
-    pub refusal: u16,
-    pub controller: Controller,
-}
-
 // The host's calls on an interrupt group.
 #[derive(Clone, Copy)]
 pub enum GroupCall {

@@ -4,12 +4,14 @@ use Prim.Native.Nat.{ℕ}
 use mathlib.Core.Path.{◌≡◌, refl, sym, ◌∙◌, ap}
 use mathlib.Core.Bool.{Bool, true, false, cond, not, ◌&&◌}
 use mathlib.Core.List.{List, []}
-use borrow.Author.Tests.{eqb-true}
-use lib.Dec.{eqb}
-use Rattle.model.specs.declared.Answer.{Answer}
-use Rattle.model.specs.declared.Answer.TheVariants.{Never, Good, Held, Stale, Refused}
-use Rattle.model.specs.Layout.{Areas, areas, tables_fit, pages_fit, areas_fit, entry}
-use Rattle.model.specs.Ports.{valid_words}
+use lib.Dec.{eqb, ltb}
+use Rattle.constants.specs.declared.refusals.Refusal.{Refusal}
+use Rattle.constants.specs.Refusal.{number}
+use Rattle.constants.proofs.Numbers.{refused_number}
+use Rattle.model.specs.Answer.{Answer}
+use Rattle.model.specs.Answer.{Never, Good, Held, Stale, Refused}
+use Rattle.model.specs.Layout.{Areas, areas, tables_fit, pages_fit, areas_fit, entry, port_at}
+use Rattle.model.specs.Ports.{valid_words, well_formed}
 use Rattle.model.specs.Calls.{Call, open_port, close_port, write_port, read_port, out_of_range, refusal, step, outcome_of, outcome, fresh_over}
 use Rattle.model.specs.Calls.{port_refusal, asked, part_for, fetched}
 use Rattle.model.proofs.Refused.{accepted}
@@ -25,10 +27,10 @@ unfolding port_refusal refusal open_refusal
 open_number m a p code sink i limit = refl
 
 -- an opening that is accepted has its arguments in range
-pub open_accepted : (m : Areas) (a p code i : ℕ) {n : ℕ} → n ≡ open_refusal m a p code i → eqb n 0 ≡ true → InRange a p code i
+pub open_accepted : (m : Areas) (a p code i : ℕ) → 0 ≡ open_refusal m a p code i → InRange a p code i
 unfolding port_refusal
-open_accepted m a p code i {n} e z =
-    let none = open_number m a p code true i 0 ∙ sym e ∙ eqb-true n 0 z in
+open_accepted m a p code i e =
+    let none = open_number m a p code true i 0 ∙ sym e in
     open_range a p code i (accepted (open_port a p code true i 0) (fresh_over m) none out_of_range)
 
 -- the test of the port words is asked only where there is an entry
@@ -51,19 +53,43 @@ pub write_number : (m : Areas) (a : ℕ) (ws : List ℕ) → port_refusal (write
 unfolding port_refusal refusal write_refusal reached
 write_number m a ws = rw excused
 
--- what a call leaves, by the number k that it is to answer and the number n that it answers
-module _ (c : Call) (m : Areas) {k n : ℕ} (number : port_refusal c m ≡ k) (e : n ≡ k) where
-  by_number : out (outcome_of n c (fresh_over m)).world.areas n ≡ host_call c m
+-- a test that comes after what needs a port: what is refused before stays refused, and else the later test decides
+pub reached_then : (fit : Bool) (m : Areas) (a later : ℕ) → cond (eqb (reached fit m a 0) 0) later (reached fit m a 0) ≡ reached fit m a later
+unfolding reached
+reached_then fit m a later =
+    go (not fit) (ltb 4095 a) (ltb 255 (entry m a)) (eqb (entry m a) 0) (not (well_formed a (port_at m (entry m a))))
+  where
+    go : (area range above none ill : Bool)
+        → let by = λ (n : ℕ). cond area 1 (cond range 2 (cond above 6 (cond none 3 (cond ill 6 n)))) in
+        cond (eqb (by 0) 0) later (by 0) ≡ by later
+    go true range above none ill = refl
+    go false true above none ill = refl
+    go false false true none ill = refl
+    go false false false true ill = refl
+    go false false false false true = refl
+    go false false false false false = refl
+
+-- of what needs a port the refusal stays
+pub refused_before : (fit : Bool) (m : Areas) (a later : ℕ) (e : Refusal) → number e ≡ reached fit m a 0 → number e ≡ reached fit m a later
+refused_before fit m a later e r = rw (← r, refused_number e) at (reached_then fit m a later)
+
+-- and where it is not refused the later test decides
+pub reached_after : (fit : Bool) (m : Areas) (a later : ℕ) → 0 ≡ reached fit m a 0 → later ≡ reached fit m a later
+reached_after fit m a later r = rw (← r) at (reached_then fit m a later)
+
+-- what a call leaves, by the number k that it is to answer
+module _ (c : Call) (m : Areas) {k : ℕ} (same : port_refusal c m ≡ k) where
+  by_number : (n : ℕ) → n ≡ k → out (outcome_of n c (fresh_over m)).world.areas n ≡ host_call c m
   unfolding host_call port_areas port_refusal outcome
-  by_number = ap (λ (x : ℕ). out (outcome_of x c (fresh_over m)).world.areas x) (e ∙ sym number)
+  by_number n e = ap (λ (x : ℕ). out (outcome_of x c (fresh_over m)).world.areas x) (e ∙ sym same)
 
-  -- with the number 0 the call does its step
-  pub done : eqb n 0 ≡ true → out (step c (fresh_over m)).areas n ≡ host_call c m
-  done z = rw z at by_number
+  -- accepted it does its step
+  pub done : 0 ≡ k → out (step c (fresh_over m)).areas 0 ≡ host_call c m
+  done = by_number 0
 
-  -- with any other number it leaves the areas
-  pub refused : eqb n 0 ≡ false → out m n ≡ host_call c m
-  refused z = rw z at by_number
+  -- refused it leaves the areas
+  pub refused : (e : Refusal) → number e ≡ k → out m (number e) ≡ host_call c m
+  refused e r = rw (refused_number e) at (by_number (number e) r)
 
 -- the part for an answer is the words exactly where the answer shows them
 parts : (x : Answer) (ws : List ℕ) → cond (shown x) ws [] ≡ part_for x ws
@@ -74,9 +100,9 @@ parts Stale ws = refl
 parts (Refused n) ws = refl
 
 -- the code's tests give whether words are handed back
-pub hands_back_lem : (i p z o : List ℕ) (a : ℕ) {x : Answer} {fit show both : Bool} → fit ≡ pages_fit (areas [] [] z o)
-    → x ≡ asked (areas i p [] []) a → show ≡ shown x → both ≡ (fit && show) → both ≡ hands_back (areas i p z o) a
-hands_back_lem i p z o a f e s b = rw (b, s, e, f, pages_alone i p z o, asks_alone i p z o a)
+pub hands_back_lem : (i p z o : List ℕ) (a : ℕ) {x : Answer} {fit show : Bool} → fit ≡ pages_fit (areas [] [] z o)
+    → x ≡ asked (areas i p [] []) a → show ≡ shown x → (fit && show) ≡ hands_back (areas i p z o) a
+hands_back_lem i p z o a f e s = rw (s, e, f, pages_alone i p z o, asks_alone i p z o a)
 
 -- and by it the valid words, or none, are what is fetched
 pub fetch_shown : (m : Areas) (a : ℕ) {b : Bool} → b ≡ hands_back m a → cond b (valid_words m (entry m a)) [] ≡ fetched m a

@@ -3,11 +3,11 @@
 //
 // Promised for all inputs: what comes back and what each area holds afterwards are those of the definitions of the crate `model`;
 // specs/Host.antt puts them together for the calls that change an area. Nothing is asked of the caller: what a call cannot do it refuses
-// by the document's number, and then it changes nothing. No call looks further than the entry, the port words and the page words that
+// and then it changes nothing. No call looks further than the entry, the port words and the page words that
 // it needs, and nothing is copied but the words of a write.
 //
 // `calls` has the calls, `refusal` their refusals.
-#![tactic(auto)]
+#![tactic(auto, unfolding(crate::specs::Host::open_refusal, crate::specs::Host::reached, model::specs::Ports::open_words))]
 
 pub mod calls;
 mod refusal;

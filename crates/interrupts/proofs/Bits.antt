@@ -1,17 +1,13 @@
 -- Laws on the bits of words: of a join, of a meet, of a word too small for a bit, of a word with one bit taken off; and words with no
 -- bit outside another. A bit is a digit of the quotient by a power of two. Assumes nothing.
-use mathlib.Core.Path.{◌≡◌, refl, sym, ◌∙◌}
-use mathlib.Core.Bool.{Bool, true, false, not, ◌&&◌, ◌||◌, true≢false, and-true, and-false}
-use mathlib.Core.Logic.{dite}
-use Prim.Native.Nat.{ℕ, zero, suc, ◌-◌, ◌*◌, ◌/◌, ◌%◌, ◌^◌, ◌≤◌, ◌<◌}
-use native.Mathlib.Nat.{div-eq_of_lt, one-mul}
-use native.Mathlib.Decide.{dec_lt}
-use native.Mathlib.Numerals.{one-add}
-use native.Mathlib.Omega.{arith}
-use borrow.Author.Tests.{eqb-true, ne_eqb}
-use lib.Dec.{eqb, eqb-zero-suc, eqb-suc-zero, eqb-suc-suc}
-use lib.Pow.{pow_pos, shr-shr, shl_exact}
-use lib.Bits.{bit_and, bit_or, and_shr, and_mod, or_shr, or_mod}
+use Rattle.std.proofs.Common.{◌≡◌, ◌∙◌, ◌&&◌, ◌||◌, ℕ, ◌-◌, ◌*◌, ◌/◌, ◌%◌, ◌^◌, ◌≤◌, ◌<◌, Bool, refl, sym, true, false, not, true≢false}
+use Rattle.std.proofs.Common.{zero, suc, one-mul, one-add, arith, eqb-true, ne_eqb, eqb, pow_pos, shr-shr, shl_exact, bit_and, bit_or}
+use Rattle.std.proofs.Math.Bool.{and-true, and-false}
+use Rattle.std.proofs.Math.Logic.{dite}
+use Rattle.std.proofs.Math.Nat.{div-eq_of_lt}
+use Rattle.std.proofs.Math.Decide.{dec_lt}
+use Rattle.std.proofs.Math.Dec.{eqb-zero-suc, eqb-suc-zero, eqb-suc-suc}
+use Rattle.std.proofs.lemmas.Nat.{and_shr, and_mod, or_shr, or_mod}
 use Rattle.interrupts.specs.Group.{bit}
 use Rattle.interrupts.specs.Shape.{Within}
 

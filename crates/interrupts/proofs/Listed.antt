@@ -1,9 +1,6 @@
 -- The names of both groups, one computed table each: the list of document 01 has the word of bit 15 first and that of bit 0 last, and 0 where
 -- the group has no such bit. The contracts of `names::group0` and `group1` are cited as they stand. Assumes nothing.
-use Prim.Native.Nat.{ℕ, zero, suc, ◌^◌}
-use mathlib.Core.Path.{◌≡◌, refl, ◌∙◌}
-use mathlib.Core.Bool.{cond}
-use mathlib.Core.List.{List, [], ◌∷◌}
+use Rattle.std.proofs.Common.{ℕ, ◌^◌, ◌≡◌, ◌∙◌, [], ◌∷◌, List, zero, suc, refl, cond}
 use Rattle.interrupts.specs.Names.{names0, names1, used0, used1, data_transfer}
 use Rattle.interrupts.specs.Group.{bit}
 use Rattle.interrupts.proofs.names.group0.Reads as group0-reads

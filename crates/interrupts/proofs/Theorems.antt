@@ -1,10 +1,7 @@
 -- What is proved of a group beside its definitions, bit by bit and for every run of calls. specs/Shape.antt says what each theorem
 -- states; the proofs rest on the bits of joins, of meets and of a word with one bit taken off. Assumes nothing.
-use mathlib.Core.Path.{◌≡◌, refl, sym, ◌∙◌, subst}
-use mathlib.Core.Bool.{Bool, true, false, true≢false, and-true, or-false, or_assoc}
-use mathlib.Core.List.{List, [], ◌∷◌, map}
-use mathlib.Core.Option.{Option, none, some}
-use Prim.Native.Nat.{ℕ}
+use Rattle.std.proofs.Common.{◌≡◌, ◌∙◌, [], ◌∷◌, ℕ, Bool, List, Option, None, Some, refl, sym, subst, true, false, true≢false, map}
+use Rattle.std.proofs.Math.Bool.{and-true, or-false, or_assoc}
 use Rattle.interrupts.specs.declared.Group.{Group}
 use Rattle.interrupts.specs.Names.{used1}
 use Rattle.interrupts.specs.Group.{group, fresh, settled, raised, status_read, bit, highest, vector_of, without, vector_read}
@@ -21,8 +18,8 @@ unfolding vector_read
 vector_highest g = go (highest 16 g.status) (found 16 g.status)
   where
     go : (o : Option ℕ) → Found 16 g.status o → Vector g.status (vector_of o) (without g.status o)
-    go none f = nothing f
-    go (some j) f = number j f.0 f.1 f.2 (λ k. bit_off j k g.status f.1)
+    go None f = nothing f
+    go (Some j) f = number j f.0 f.1 f.2 (λ k. bit_off j k g.status f.1)
 
 -- While a group is frozen nothing raised is lost: after any words it is still frozen, status and mask are as they were, and a used
 -- bit is pending exactly if it was pending or one of the words has it.

@@ -1,7 +1,7 @@
 -- Document 01, "Two interrupt groups": what each call leaves of a group, and what it reads. A word's bits are joined by bit_or and let
 -- through by bit_and, which are what | and & mean. Assumes nothing.
 use Rattle.std.specs.Prelude.{ℕ, zero, suc, ◌+◌, ◌-◌, ◌/◌, ◌%◌, ◌^◌, Bool, true, false, cond, not, ◌&&◌, eqb}
-use Rattle.std.proofs.Math.Option.{Option, none, some}
+use Rattle.std.specs.Prelude.{Option, None, Some}
 use Rattle.std.specs.Int.Bits.{bit_and, bit_or}
 use Rattle.interrupts.specs.declared.Group.{Group}
 use Rattle.interrupts.specs.declared.Read.{Read}
@@ -32,18 +32,18 @@ bit x k = eqb (x / 2 ^ k % 2) 1
 
 -- the number of the highest bit that is set among the k lowest of x, or none
 unfoldable pub highest : ℕ → ℕ → Option ℕ
-highest zero x = none
-highest (suc k) x = cond (bit x k) (some k) (highest k x)
+highest zero x = None
+highest (suc k) x = cond (bit x k) (Some k) (highest k x)
 
 -- the vector gives 256 + the number of the highest set status bit; with none set it gives 0
 abbrev pub vector_of : Option ℕ → ℕ
-vector_of none = 0
-vector_of (some k) = 256 + k
+vector_of None = 0
+vector_of (Some k) = 256 + k
 
 -- x with that bit cleared
 abbrev pub without : ℕ → Option ℕ → ℕ
-without x none = x
-without x (some k) = x - 2 ^ k
+without x None = x
+without x (Some k) = x - 2 ^ k
 
 -- reading the vector clears the bit that it gives, and freezes
 unfoldable pub vector_read : Group → Read

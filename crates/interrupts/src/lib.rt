@@ -8,9 +8,8 @@
 
 pub mod names;
 
-ghost use Rattle.std.specs.Prelude.{◌≡◌, ◌<◌};
-ghost use Rattle.std.proofs.Math.Option.{some};
-ghost use Rattle.interrupts.specs.Group.{fresh, settled, raised, status_read, vector_read, highest, status_written, released};
+ghost use Rattle.std.specs.Prelude.{◌≡◌};
+ghost use Rattle.interrupts.specs.Group.{fresh, settled, raised, status_read, vector_read, status_written, released};
 ghost use Rattle.interrupts.specs.Group.{pending_written, mask_written, active};
 ghost use Rattle.interrupts.specs.Names.{data_transfer};
 
@@ -32,28 +31,20 @@ pub struct Read {
 }
 
 // The bit of data transfer interrupt i, 1 to 7; no bit for any other number.
+#[tactic(auto, unfolding(crate::specs::Names::data_transfer))]
 pub fn data_transfer(i: u16) -> u16
     ensures { result ≡ data_transfer i }
 {
-    if i == 0 {
-        return 0;
+    if (1..=7).contains(&i) {
+        1 << (i - 1)
+    } else {
+        0
     }
-    if 7 < i {
-        return 0;
-    }
-    1 << (i - 1)
-}
-
-// The number of the highest set bit.
-fn highest_bit(x: u16) -> u16
-    requires { 0 < x }
-    ensures { (some result ≡ highest 16 x) × (result < 16) }
-{
-    (15 - u16::leading_zeros(x)) as u16
 }
 
 impl Group {
     // The group at reset: all is zero and not frozen.
+    #[tactic(auto, unfolding(crate::specs::Group::fresh))]
     pub fn new(used: u16) -> Group
         ensures { result ≡ fresh used }
     {
@@ -67,26 +58,29 @@ impl Group {
     }
 
     // Unless the group is frozen, pending bits that the mask lets through join status, and all pending is cleared.
+    #[tactic(auto, unfolding(crate::specs::Group::settled))]
     fn settle(mut self) -> Group
         ensures { result ≡ settled self }
     {
         if self.frozen {
             return self;
         }
-        self.status = self.status | (self.pending & self.mask);
+        self.status |= self.pending & self.mask;
         self.pending = 0;
         self
     }
 
     // The bits are raised.
+    #[tactic(auto, unfolding(crate::specs::Group::raised))]
     pub fn raise(mut self, bits: u16) -> Group
         ensures { result ≡ raised self bits }
     {
-        self.pending = self.pending | (bits & self.used);
+        self.pending |= bits & self.used;
         self.settle()
     }
 
     // Reading status freezes.
+    #[tactic(auto, unfolding(crate::specs::Group::status_read))]
     pub fn read_status(mut self) -> Read
         ensures { result ≡ status_read self }
     {
@@ -100,15 +94,14 @@ impl Group {
         ensures { result ≡ vector_read self }
     {
         self.frozen = true;
-        let status = self.status;
-        if status == 0 {
+        if self.status == 0 {
             return Read {
                 value: 0,
                 group: self,
             };
         }
-        let bit = highest_bit(status);
-        self.status = status - (1 << bit);
+        let bit = self.status.ilog2() as u16;
+        self.status -= 1 << bit;
         Read {
             value: 256 + bit,
             group: self,
@@ -116,14 +109,16 @@ impl Group {
     }
 
     // Writing status clears where 0 is written.
+    #[tactic(auto, unfolding(crate::specs::Group::status_written))]
     pub fn write_status(mut self, value: u16) -> Group
         ensures { result ≡ status_written self value }
     {
-        self.status = self.status & value;
+        self.status &= value;
         self
     }
 
     // Writing the vector, whatever is written, releases the group and lets pending through.
+    #[tactic(auto, unfolding(crate::specs::Group::released))]
     pub fn write_vector(mut self) -> Group
         ensures { result ≡ released self }
     {
@@ -131,6 +126,8 @@ impl Group {
         self.settle()
     }
 
+    // Writing pending replaces it, unused bits dropped, and the same rule then applies.
+    #[tactic(auto, unfolding(crate::specs::Group::pending_written))]
     pub fn write_pending(mut self, value: u16) -> Group
         ensures { result ≡ pending_written self value }
     {
@@ -138,6 +135,8 @@ impl Group {
         self.settle()
     }
 
+    // And so for the mask.
+    #[tactic(auto, unfolding(crate::specs::Group::mask_written))]
     pub fn write_mask(mut self, value: u16) -> Group
         ensures { result ≡ mask_written self value }
     {
@@ -146,12 +145,10 @@ impl Group {
     }
 
     // The outgoing line is active while status is nonzero and the group is not frozen.
+    #[tactic(auto, unfolding(crate::specs::Group::active))]
     pub fn line(self) -> bool
         ensures { result ≡ active self }
     {
-        if self.frozen {
-            return false;
-        }
-        self.status != 0
+        !self.frozen && self.status != 0
     }
 }

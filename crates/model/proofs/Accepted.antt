@@ -4,7 +4,7 @@ use Prim.Native.Nat.{ℕ, ◌≤◌, ◌<◌}
 use mathlib.Core.Path.{◌≡◌, refl, sym, ◌∙◌, ap}
 use mathlib.Core.Bool.{Bool, true, false, cond, not, ◌&&◌, ◌||◌, true≢false}
 use mathlib.Core.List.{List}
-use mathlib.Core.Option.{Option, none, some}
+use Rattle.std.specs.Prelude.{Option, None, Some}
 use native.Mathlib.Omega.{arith}
 use lib.Dec.{eqb, ltb}
 use lib.ListN.{length}
@@ -41,7 +41,7 @@ excused false true e f = refl
 excused false false e f = absurd (true≢false e)
 
 -- where nothing stands no port v does
-pub nowhere : {v : Standing} → none ≡ some v → ⊥
+pub nowhere : {v : Standing} → None ≡ Some v → ⊥
 nowhere e = let z : ◌≡◌ {A = ℕ} 0 1 = cc in omega arith
 
 -- ---- the host's calls
@@ -83,23 +83,23 @@ valid_open a p code sink i limit s e =
 
 -- a port at an address, from what the tests have passed
 pub open_at : (m : Areas) (a : ℕ) → (entry m a ≡ 0 → ⊥) → entry m a ≤ 255 → well_formed a (port_at m (entry m a)) ≡ true
-    → standing m a ≡ some (standing_of m (entry m a))
+    → standing m a ≡ Some (standing_of m (entry m a))
 unfolding standing seek
 open_at m a n l f = rw (ne_eqb (entry m a) 0 n, le-leb (entry m a) 255 l, f)
 
 -- a call that needs a port finds one
 module _ (m : Areas) (a : ℕ) (above : ltb 255 (entry m a) ≡ false) (absent : eqb (entry m a) 0 ≡ false)
     (ill : (not (eqb (entry m a) 0) && not (well_formed a (port_at m (entry m a)))) ≡ false) where
-  finds : standing m a ≡ some (standing_of m (entry m a))
+  finds : standing m a ≡ Some (standing_of m (entry m a))
   finds = open_at m a (eqb-false _ 0 absent) (ltb-false 255 _ above) (excused _ _ ill absent)
 
 -- an accepted closing finds the port of the address's entry standing open there
-pub found_close : (a : ℕ) (s : World) → refusal (close_port a) s ≡ 0 → standing s.areas a ≡ some (standing_of s.areas (entry s.areas a))
+pub found_close : (a : ℕ) (s : World) → refusal (close_port a) s ≡ 0 → standing s.areas a ≡ Some (standing_of s.areas (entry s.areas a))
 found_close a s e = let t = accepted (close_port a) s e in finds s.areas a (t bad_entry) (t no_port) (t bad_words)
 
 -- and so does an accepted write
 pub found_write : (a : ℕ) (ws : List ℕ) (s : World) → refusal (write_port a ws) s ≡ 0
-    → standing s.areas a ≡ some (standing_of s.areas (entry s.areas a))
+    → standing s.areas a ≡ Some (standing_of s.areas (entry s.areas a))
 found_write a ws s e = let t = accepted (write_port a ws) s e in finds s.areas a (t bad_entry) (t no_port) (t bad_words)
 
 -- what an accepted closing does to the areas is valid
@@ -122,42 +122,42 @@ valid_write a ws s e =
 -- ---- a bus event
 
 -- the port for a master word stands open at the word's address
-pub port_open : (m : Areas) (w : ℕ) (v : Standing) → port_for m w ≡ some v → (standing m (address_of w) ≡ some v) × (v.word ≡ w)
+pub port_open : (m : Areas) (w : ℕ) (v : Standing) → port_for m w ≡ Some v → (standing m (address_of w) ≡ Some v) × (v.word ≡ w)
 unfolding port_for
 port_open m w v e = go (has_ports (code_of w)) (standing m (address_of w)) refl e
   where
-    same : (o : Standing) (b : Bool) → eqb o.word w ≡ b → cond b (some o) none ≡ some v → (some o ≡ some v) × (v.word ≡ w)
+    same : (o : Standing) (b : Bool) → eqb o.word w ≡ b → cond b (Some o) None ≡ Some v → (Some o ≡ Some v) × (v.word ≡ w)
     same o true eb ec = let eo : o ≡ v = cc in (ec, sym (ap (λ (x : Standing). x.word) eo) ∙ eqb-true _ _ eb)
     same o false eb ec = absurd (nowhere ec)
 
-    go : (b : Bool) (o : Option Standing) → standing m (address_of w) ≡ o → cond b (open_for w o) none ≡ some v → (o ≡ some v) × (v.word ≡ w)
-    go true none ev ec = absurd (nowhere ec)
-    go true (some o) ev ec = same o (eqb o.word w) refl ec
+    go : (b : Bool) (o : Option Standing) → standing m (address_of w) ≡ o → cond b (open_for w o) None ≡ Some v → (o ≡ Some v) × (v.word ≡ w)
+    go true None ev ec = absurd (nowhere ec)
+    go true (Some o) ev ec = same o (eqb o.word w) refl ec
     go false o ev ec = absurd (nowhere ec)
 
-sink_port_lem : (o : Option Standing) (v : Standing) → if_sink o ≡ some v → (o ≡ some v) × (v.sink ≡ true)
-sink_port_lem none v e = absurd (nowhere e)
-sink_port_lem (some o) v e = go o.sink refl e
+sink_port_lem : (o : Option Standing) (v : Standing) → if_sink o ≡ Some v → (o ≡ Some v) × (v.sink ≡ true)
+sink_port_lem None v e = absurd (nowhere e)
+sink_port_lem (Some o) v e = go o.sink refl e
   where
-    go : (b : Bool) → o.sink ≡ b → cond b (some o) none ≡ some v → (some o ≡ some v) × (v.sink ≡ true)
+    go : (b : Bool) → o.sink ≡ b → cond b (Some o) None ≡ Some v → (Some o ≡ Some v) × (v.sink ≡ true)
     go true eb ec = let eo : o ≡ v = cc in (ec, sym (ap (λ (x : Standing). x.sink) eo) ∙ eb)
     go false eb ec = absurd (nowhere ec)
 
 -- the sink for a master word: it stands open at the word's address, and has the word
 pub record Sink (m : Areas) (w : ℕ) (v : Standing) : Type 0 where
-  pub there : standing m (address_of w) ≡ some v
+  pub there : standing m (address_of w) ≡ Some v
   pub word : v.word ≡ w
   pub sink : v.sink ≡ true
 
 -- the sink that is found for a master word is open for it in this sense
-pub sink_open_lem : (m : Areas) (w : ℕ) (v : Standing) → sink_for m w ≡ some v → Sink m w v
+pub sink_open_lem : (m : Areas) (w : ℕ) (v : Standing) → sink_for m w ≡ Some v → Sink m w v
 sink_open_lem m w v e =
     let k = sink_port_lem (port_for m w) v e in
     let o = port_open m w v k.0 in
     record { there = o.0; word = o.1; sink = k.1 }
 
 -- so its port stands open at the word's address, with this word
-pub sink_at_lem : (m : Areas) (w : ℕ) (v : Standing) → sink_for m w ≡ some v → At m (address_of w) v.port w
+pub sink_at_lem : (m : Areas) (w : ℕ) (v : Standing) → sink_for m w ≡ Some v → At m (address_of w) v.port w
 sink_at_lem m w v e = let k = sink_open_lem m w v e in record { seen = v; there = k.there; port = refl; word = k.word }
 
 -- a sound slave frame has the size of its code
@@ -176,8 +176,8 @@ sound_size code h l e = go (expected_of code) refl e
         never false ej = let z : ◌≡◌ {A = ℕ} 0 1 = cc in omega arith
 
     go : (x : Option ℕ) → expected_of code ≡ x → judged_for x h ≡ Sound → length (words_of h) ≡ words_in x
-    go (some n) ex ej = sized n (longest code n ex) _ _ (wrong_of (words_of h) h.checks) refl ej
-    go none ex ej = let z : ◌≡◌ {A = ℕ} 0 1 = cc in omega arith
+    go (Some n) ex ej = sized n (longest code n ex) _ _ (wrong_of (words_of h) h.checks) refl ej
+    go None ex ej = let z : ◌≡◌ {A = ℕ} 0 1 = cc in omega arith
 
 -- what a judged slave frame does to the areas is valid
 pub valid_taken : (m : Areas) (w : ℕ) (h : Hearing) (j : Judgement) → length h.words ≡ 16 → judged_slave (code_of w) h ≡ j
@@ -185,6 +185,6 @@ pub valid_taken : (m : Areas) (w : ℕ) (h : Hearing) (j : Judgement) → length
 valid_taken m w h j l e = go (sink_for m w) refl j e
   where
     go : (o : Option Standing) → sink_for m w ≡ o → (j : Judgement) → judged_slave (code_of w) h ≡ j → Valid m (taken o j h)
-    go none eo j ej = nothing
-    go (some v) eo Sound ej = filling (sink_at_lem m w v eo) (sound_size (code_of w) h l ej)
-    go (some v) eo (Bad wrong) ej = marking (sink_at_lem m w v eo)
+    go None eo j ej = nothing
+    go (Some v) eo Sound ej = filling (sink_at_lem m w v eo) (sound_size (code_of w) h l ej)
+    go (Some v) eo (Bad wrong) ej = marking (sink_at_lem m w v eo)

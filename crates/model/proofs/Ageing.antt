@@ -5,7 +5,7 @@ use mathlib.Core.Path.{◌≡◌, refl, sym, ◌∙◌, ap}
 use mathlib.Core.Logic.{inl, inr, ⊎_elim}
 use mathlib.Core.Bool.{Bool, true, false, cond, ◌&&◌}
 use mathlib.Core.List.{List}
-use mathlib.Core.Option.{some}
+use Rattle.std.specs.Prelude.{Some}
 use native.Mathlib.Decide.{ℕ_discrete}
 use native.Mathlib.Omega.{arith}
 use lib.Dec.{eqb, leb, ltb, lit≤}
@@ -13,7 +13,8 @@ use borrow.Author.Tests.{ltb-true, ltb-false, leb-true, leb-false, lt-ltb, le-le
 use lib.ListN.{length}
 use Rattle.model.specs.declared.Words.{Words}
 use Rattle.model.specs.declared.Faults.{Faults}
-use Rattle.model.specs.declared.Sought.TheVariants.{Nothing, Damaged, Port}
+use Rattle.std.specs.Prelude.{None, Some, Ok, Err}
+use Rattle.constants.specs.declared.refusals.Refusal.TheVariants.{Damaged}
 use Rattle.model.specs.Layout.{Areas, areas, stride, tables_fit, pages_fit, areas_fit, entry, words_at, with_words, port_at, with_port, flags_of}
 use Rattle.model.specs.Ports.{well_formed, seek, standing_of, seen, standing, oldest, faulty, marked_words, mark, apply}
 use Rattle.model.specs.Ports.{open_sink, with_age, aged_words, aged_to, aged}
@@ -142,9 +143,9 @@ module _ {m n : Areas} (b : ButAges m n) where
   standing_ages a = rw (entry_ages a, formed_ages a (entry m a)) (go (eqb (entry m a) 0) (leb (entry m a) 255 && well_formed a (port_at m (entry m a))))
     where
       go : (c d : Bool)
-          → seen n (cond c Nothing (cond d (Port (entry m a)) Damaged)) ≡ seen m (cond c Nothing (cond d (Port (entry m a)) Damaged))
+          → seen n (cond c (Ok None) (cond d (Ok (Some (entry m a))) (Err Damaged))) ≡ seen m (cond c (Ok None) (cond d (Ok (Some (entry m a))) (Err Damaged)))
       go true d = refl
-      go false true = ap some (standing_of_ages (entry m a))
+      go false true = ap Some (standing_of_ages (entry m a))
       go false false = refl
 
   -- and the shape of the areas is kept

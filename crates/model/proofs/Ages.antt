@@ -5,11 +5,12 @@ use mathlib.Core.Path.{◌≡◌, refl, sym, ◌∙◌, ap}
 use mathlib.Core.Logic.{◌↔◌}
 use mathlib.Core.Bool.{Bool, true, false, cond, not, ◌&&◌, true≢false, false≢true}
 use mathlib.Core.List.{List, [], ◌∷◌}
-use mathlib.Core.Option.{none, some, none-ne-some}
+use Rattle.std.specs.Prelude.{None, Some}
+use Rattle.std.proofs.lemmas.Option.{none-some}
 use native.Mathlib.Omega.{arith}
 use lib.Dec.{eqb, leb}
 use borrow.Author.Tests.{eqb-true, eqb-false, leb-true, le-leb}
-use Rattle.model.specs.declared.Answer.TheVariants.{Stale}
+use Rattle.model.specs.Answer.{Stale}
 use Rattle.model.specs.Layout.{Areas, entry, flags_of}
 use Rattle.model.specs.Ports.{Standing, standing_of, standing, is_held, too_old, state_of, oldest}
 use Rattle.model.specs.Quiet.{millisecond}
@@ -105,7 +106,7 @@ old_exactly limit age = by (eqb limit 0) refl
 
 -- ---- what the past tells of an open port
 
-module _ (past : List Call) (run : Accepted past) (a : ℕ) (o : Opening) (stands : opening_of past a ≡ some o) where
+module _ (past : List Call) (run : Accepted past) (a : ℕ) (o : Opening) (stands : opening_of past a ≡ Some o) where
   told_age : (words_now past o).age ≡ age_told past a o
   told_age = (past_ages past run).ages a o stands
 
@@ -124,7 +125,7 @@ module _ (past : List Call) (run : Accepted past) (a : ℕ) (o : Opening) (stand
   abbrev now : Areas
   now = (after past).areas
 
-  there : standing now a ≡ some (open_standing past a o)
+  there : standing now a ≡ Some (open_standing past a o)
   there = (past_told past run).holds.stands a ∙ rw stands
 
   port_here : entry now a ≡ o.port
@@ -140,11 +141,11 @@ module _ (past : List Call) (run : Accepted past) (a : ℕ) (o : Opening) (stand
       go (flags_of (words_now past o).flags).ever _ (fillings past a o)
       (rw port_here at (whole now (past_told past run).holds.shape a (open_standing past a o) there))
     where
-      go : (e : Bool) (ws : List ℕ) (l : List (List ℕ)) → last_of l ≡ cond e (some ws) none → e ≡ is_filled l
-      go true ws [] i = absurd (none-ne-some ws i)
+      go : (e : Bool) (ws : List ℕ) (l : List (List ℕ)) → last_of l ≡ cond e (Some ws) None → e ≡ is_filled l
+      go true ws [] i = absurd (none-some ws i)
       go true ws (v ∷ l) i = refl
       go false ws [] i = refl
-      go false ws (v ∷ l) i = absurd (none-ne-some v (sym i))
+      go false ws (v ∷ l) i = absurd (none-some v (sym i))
 
   -- What asking answers of an open port is what the past tells: never if nothing filled it; held if its last exchange failed; stale if its limit
   -- is nonzero and its age at or above it; else good.

@@ -4,7 +4,7 @@ use Prim.Native.Nat.{ℕ, zero, suc, ◌+◌, ◌/◌, ◌%◌, ◌≤◌, min}
 use mathlib.Core.Path.{◌≡◌, refl, ◌∙◌, ap}
 use mathlib.Core.Bool.{Bool, true, false, cond, ◌&&◌}
 use mathlib.Core.List.{List, ◌∷◌}
-use mathlib.Core.Option.{Option, none, some}
+use Rattle.std.specs.Prelude.{Option, None, Some}
 use native.Mathlib.Decide.{ℕ_discrete}
 use native.Mathlib.Omega.{arith}
 use lib.Dec.{eqb}
@@ -64,7 +64,7 @@ module _ (m : Areas) (fits : areas_fit m ≡ true) where
 
 pub record AgesTold (past : List Call) (c : Controller) (m : Areas) : Type 0 where
   pub phase : c.phase ≡ quiet_since past % millisecond
-  pub ages : (a : ℕ) (o : Opening) → opening_of past a ≡ some o → (port_at m o.port).age ≡ age_told past a o
+  pub ages : (a : ℕ) (o : Opening) → opening_of past a ≡ Some o → (port_at m o.port).age ≡ age_told past a o
 
 -- ---- a bus event
 
@@ -75,9 +75,9 @@ heard_renews m (Master w) y q = refl
 heard_renews m (Reply w j) y q = go (sink_for m w) j
   where
     go : (o : Option Standing) (j : Judgement) → renews (taken o j y) q ≡ fills_port (taken o j y) q
-    go none j = refl
-    go (some v) Sound = refl
-    go (some v) (Bad wrong) = refl
+    go None j = refl
+    go (Some v) Sound = refl
+    go (Some v) (Bad wrong) = refl
 heard_renews m Stray y q = refl
 
 -- a frame that is taken sets the age to 0
@@ -113,12 +113,12 @@ hear_ages past x y ty h told =
 -- ---- quiet time
 
 late_renews : (m : Areas) (o : Option ℕ) (q : ℕ) → renews (effect_later m o) q ≡ false
-late_renews m none q = refl
-late_renews m (some w) q = go (sink_for m w)
+late_renews m None q = refl
+late_renews m (Some w) q = go (sink_for m w)
   where
     go : (f : Option Standing) → renews (missed f) q ≡ false
-    go none = refl
-    go (some v) = refl
+    go None = refl
+    go (Some v) = refl
 
 -- the rules of a bit time change no age
 pulses_age : (n : ℕ) (s : World) → areas_fit s.areas ≡ true → (q : ℕ) → (port_at (pulses n s).areas q).age ≡ (port_at s.areas q).age
@@ -130,7 +130,7 @@ pulses_age (suc n) s fits q =
     ∙ rw (late_renews s.areas (due s) q)
 
 -- its end adds the milliseconds that end to the age of a sink
-aged_age : (k : ℕ) (m : Areas) → areas_fit m ≡ true → (a : ℕ) (v : Standing) → standing m a ≡ some v → (n : ℕ)
+aged_age : (k : ℕ) (m : Areas) → areas_fit m ≡ true → (a : ℕ) (v : Standing) → standing m a ≡ Some v → (n : ℕ)
     → (port_at m v.port).age ≡ cond v.sink (min oldest n) 0 → (port_at (aged_if k m) v.port).age ≡ cond v.sink (min oldest (n + k)) 0
 unfolding aged_words standing_of
 aged_age k m fits a v there n old = go (eqb k 0) refl

@@ -4,7 +4,7 @@ use mathlib.Core.Path.{◌≡◌, refl, sym, ◌∙◌, ap}
 use mathlib.Core.Logic.{◌⊎◌, inl, inr}
 use mathlib.Core.Bool.{Bool, true, false, cond, not, ◌&&◌, ◌||◌, true≢false}
 use mathlib.Core.List.{List, [], ◌∷◌}
-use mathlib.Core.Option.{Option, none, some}
+use Rattle.std.specs.Prelude.{Option, None, Some}
 use native.Mathlib.Omega.{arith}
 use lib.Dec.{eqb, ltb}
 use borrow.Author.Tests.{eqb-true, eqb-false, eq-eqb, ne_eqb, le-ltb}
@@ -24,16 +24,16 @@ use Rattle.model.proofs.Same.{Alike, same_entry}
 -- ---- no damaged entry or port words are met in a shape
 
 no_above : (m : Areas) → Shape m → (o : Option ℕ) → entry_above m o ≡ false
-no_above m s none = refl
-no_above m s (some a) = go (s.entries a)
+no_above m s None = refl
+no_above m s (Some a) = go (s.entries a)
   where
     go : (entry m a ≡ 0) ⊎ Leads m a → ltb 255 (entry m a) ≡ false
     go (inl e) = rw e
     go (inr l) = le-ltb _ _ l.small
 
 no_ill : (m : Areas) → Shape m → (o : Option ℕ) → ill_formed m o ≡ false
-no_ill m s none = refl
-no_ill m s (some a) = go (s.entries a)
+no_ill m s None = refl
+no_ill m s (Some a) = go (s.entries a)
   where
     go : (entry m a ≡ 0) ⊎ Leads m a → (not (eqb (entry m a) 0) && not (well_formed a (port_at m (entry m a)))) ≡ false
     go (inl e) = rw e
@@ -58,7 +58,7 @@ module _ (m : Areas) (shape : Shape m) where
 
   -- nor of a call in range whose address has an entry, if none of the tests that it adds for the port holds
   pub port_in_lem : (a : ℕ) (more : List Test) → ltb 4095 a ≡ false → eqb (entry m a) 0 ≡ false → Silent more → Silent (at_port m a more)
-  port_in_lem a more e there s = (e, (no_above m shape (some a), (there, (no_ill m shape (some a), s))))
+  port_in_lem a more e there s = (e, (no_above m shape (Some a), (there, (no_ill m shape (Some a), s))))
 
   -- a bus event or quiet time answers 2 with arguments out of range, else 0
   bus_first : (out : Bool) (w : Option ℕ) → first_of (on_bus m out w) ≡ cond out 2 0
@@ -67,7 +67,7 @@ module _ (m : Areas) (shape : Shape m) where
   -- a call on a port answers 2 out of range, else 3 without an entry, else what the tests that it adds say
   pub port_first : (a : ℕ) (more : List Test)
       → first_of (at_port m a more) ≡ cond (ltb 4095 a) 2 (cond (eqb (entry m a) 0) 3 (first_of more))
-  port_first a more = rw (no_above m shape (some a), no_ill m shape (some a))
+  port_first a more = rw (no_above m shape (Some a), no_ill m shape (Some a))
 
 -- no test with the number 6 holds
 abbrev Whole : List Test → Type 0
@@ -88,12 +88,12 @@ module _ (s : World) (shape : Shape s.areas) where
   bus_whole out w = (refl, (refl, (no_above _ shape (needed_for w), (no_ill _ shape (needed_for w), tt))))
 
   port_whole : (a : ℕ) (more : List Test) → Whole more → Whole (at_port s.areas a more)
-  port_whole a more w = (refl, (no_above _ shape (some a), (refl, (no_ill _ shape (some a), w))))
+  port_whole a more w = (refl, (no_above _ shape (Some a), (refl, (no_ill _ shape (Some a), w))))
 
   whole : (c : Call) → Whole (tests c s)
   whole (hear a b) = bus_whole (not (in_range a) || not (in_range b)) (word_of_heard (heard_by s.controller a b))
   whole (quiet n) = bus_whole (ltb 65535 n) (due_within n s)
-  whole (open_port a p code sink i limit) = (refl, (refl, (no_above _ shape (some a), (refl, tt))))
+  whole (open_port a p code sink i limit) = (refl, (refl, (no_above _ shape (Some a), (refl, tt))))
   whole (close_port a) = (refl, port_whole a [] tt)
   whole (write_port a ws) = (refl, port_whole a (side_test s.areas a ∷ size_test s.areas a ws ∷ []) (refl, (refl, tt)))
   whole (read_port a) = (refl, port_whole a [] tt)
@@ -107,10 +107,10 @@ module _ (s : World) (shape : Shape s.areas) where
 -- ---- two alike worlds answer every call with the same number
 
 -- in a shape, the port to which an entry leads stands open at the entry's address
-pub at_entry : (m : Areas) (a : ℕ) → Shape m → (entry m a ≡ 0 → ⊥) → standing m a ≡ some (standing_of m (entry m a))
+pub at_entry : (m : Areas) (a : ℕ) → Shape m → (entry m a ≡ 0 → ⊥) → standing m a ≡ Some (standing_of m (entry m a))
 at_entry m a s n = go (s.entries a)
   where
-    go : (entry m a ≡ 0) ⊎ Leads m a → standing m a ≡ some (standing_of m (entry m a))
+    go : (entry m a ≡ 0) ⊎ Leads m a → standing m a ≡ Some (standing_of m (entry m a))
     go (inl e) = absurd (n e)
     go (inr l) = open_at m a n l.small l.formed
 
@@ -119,7 +119,7 @@ module _ (m n : Areas) (k : Alike m n) where
   same_seen a z =
       let p = at_entry m a k.shape z in
       let q = at_entry n a k.shape' (λ e. z (same_entry m n k a ∙ e)) in
-      let r : some (standing_of m (entry m a)) ≡ some (standing_of n (entry n a)) = sym p ∙ k.stands a ∙ q in
+      let r : Some (standing_of m (entry m a)) ≡ Some (standing_of n (entry n a)) = sym p ∙ k.stands a ∙ q in
       cc
 
   -- a port that is free in one is free in the other
@@ -193,7 +193,7 @@ module _ (s u : World) (k : Alike s.areas u.areas) where
       bus_same (not (in_range a) || not (in_range b)) (word_of_heard (heard_by s.controller a b)) (word_of_heard (heard_by u.controller a b))
   refuses_same (quiet n) = bus_same (ltb 65535 n) (due_within n s) (due_within n u)
   refuses_same (open_port a p code sink i limit) =
-      rw (k.shape.fits, shape.fits, no_above M k.shape (some a), no_above N shape (some a), entry_same a) (go (open_out a p code i) refl)
+      rw (k.shape.fits, shape.fits, no_above M k.shape (Some a), no_above N shape (Some a), entry_same a) (go (open_out a p code i) refl)
     where
       go : (r : Bool) → open_out a p code i ≡ r
           → ◌≡◌ {A = ℕ} (cond r 2 (cond (not (eqb (entry N a) 0) || not (eqb (port_at M p).flags 0)) 4 0))

@@ -3,7 +3,7 @@ use Prim.Native.Nat.{ℕ, zero, suc}
 use mathlib.Core.Path.{◌≡◌, refl, sym, ◌∙◌, ap}
 use mathlib.Core.Bool.{true, false, ◌&&◌, true≢false, false≢true, and-eq-true_iff}
 use mathlib.Core.List.{List}
-use mathlib.Core.Option.{none, some}
+use Rattle.std.specs.Prelude.{None, Some}
 use lib.ListN.{length}
 use borrow.Author.Tests.{not-false, eqb-true}
 use Rattle.frames.specs.declared.Kind.{Kind}
@@ -49,16 +49,16 @@ module _ (s : World) (a b : Hearing) where
   -- ---- the reply
 
   -- A reply is given to a sound master frame alone.
-  pub no_other_reply_anywhere : (SoundMaster heard_on → ⊥) → answer (hear a b) s ≡ none
+  pub no_other_reply_anywhere : (SoundMaster heard_on → ⊥) → answer (hear a b) s ≡ None
   unfolding answer heard_by heard
   no_other_reply_anywhere n = rw (hear_answer_lem s a b) (by _ heard_on.kind refl s.controller.exchange)
     where
-      by : (d : Device) (k : Kind) → heard_on.kind ≡ k → (x : Exchange) → answer_of d s.areas (as_heard k x heard_on) ≡ none
+      by : (d : Device) (k : Kind) → heard_on.kind ≡ k → (x : Exchange) → answer_of d s.areas (as_heard k x heard_on) ≡ None
       by d Silence e x = refl
       by d Noise e x = refl
       by d MasterFrame e x = judged (judged_master heard_on) refl
         where
-          judged : (j : Judgement) → judged_master heard_on ≡ j → answer_of d s.areas (as_master j heard_on) ≡ none
+          judged : (j : Judgement) → judged_master heard_on ≡ j → answer_of d s.areas (as_master j heard_on) ≡ None
           judged Sound ej = absurd (n (record { kind = e; sound = ej }))
           judged (Bad wrong) ej = refl
       by d SlaveFrame e x = slave_unanswered d s.areas heard_on x
@@ -74,7 +74,7 @@ module _ (s : World) (a b : Hearing) where
       (heard_master heard_on m s.controller.exchange))
 
   -- where the areas have their lengths, each reply is a sound slave frame for the code of the master frame
-  pub reply_sound_in : areas_fit s.areas ≡ true → SoundMaster heard_on → (ws : List ℕ) → answer (hear a b) s ≡ some ws
+  pub reply_sound_in : areas_fit s.areas ≡ true → SoundMaster heard_on → (ws : List ℕ) → answer (hear a b) s ≡ Some ws
       → judged_slave (code_of (first_word heard_on)) (sent ws) ≡ Sound
   reply_sound_in fits m ws e = answer_sound _ s.areas (first_word heard_on) fits ws (sym (answered m) ∙ e)
 
@@ -105,12 +105,12 @@ module _ (s : World) (a b : Hearing) where
     fitting = not-false _ (accepted (hear a b) s ok bad_area)
 
     -- Each reply of an accepted event is itself a sound slave frame for the code of the master frame.
-    pub reply_sound_anywhere : SoundMaster heard_on → (ws : List ℕ) → answer (hear a b) s ≡ some ws
+    pub reply_sound_anywhere : SoundMaster heard_on → (ws : List ℕ) → answer (hear a b) s ≡ Some ws
         → judged_slave (code_of (first_word heard_on)) (sent ws) ≡ Sound
     reply_sound_anywhere = reply_sound_in fitting
 
     -- An accepted event in which the word of an open sink is soundly answered fills that port with the words of the frame.
-    pub fills_anywhere : (e : ℕ) (v : Standing) → standing s.areas e ≡ some v → v.sink ≡ true
+    pub fills_anywhere : (e : ℕ) (v : Standing) → standing s.areas e ≡ Some v → v.sink ≡ true
         → answers_now s.controller a b v.word ≡ true
         → (step (hear a b) s).areas ≡ filled s.areas v.port (words_of heard_on)
     unfolding step apply
@@ -133,14 +133,14 @@ module _ (s : World) (a b : Hearing) where
             let word : u.word ≡ v.word = one_word s.controller.exchange u.word v.word (waited _ h) (waited _ sound) in
             let place : d ≡ e =
             sym (standing_at_lem s.areas d u here).address ∙ ap address_of word ∙ (standing_at_lem s.areas e v there).address in
-            let same : some u ≡ some v = sym here ∙ ap (standing s.areas) place ∙ there in
+            let same : Some u ≡ Some v = sym here ∙ ap (standing s.areas) place ∙ there in
             let port : u ≡ v = cc in
             ap (λ (x : Standing). filled s.areas x.port (words_of heard_on)) port
         go f (spares g away) = absurd (true≢false (sym sound ∙ away e v there sink))
 
     -- In any other accepted event no area changes but for status bits.
     pub others_anywhere : Typed (hear a b)
-        → ((e : ℕ) (v : Standing) → standing s.areas e ≡ some v → v.sink ≡ true → answers_now s.controller a b v.word ≡ false)
+        → ((e : ℕ) (v : Standing) → standing s.areas e ≡ Some v → v.sink ≡ true → answers_now s.controller a b v.word ≡ false)
         → OnlyStatus s.areas (step (hear a b) s).areas
     unfolding step effect heard_by heard
     others_anywhere ty away = go (effect (hear a b) s) frame_taken_anywhere valid

@@ -5,8 +5,14 @@ use mathlib.Core.Path.{◌≡◌, refl, sym, ◌∙◌, ap}
 use mathlib.Core.Bool.{Bool, true, false, cond, not, ◌&&◌}
 use mathlib.Core.List.{List, [], ◌∷◌}
 use lib.Dec.{eqb}
-use Rattle.model.specs.declared.Answer.{Answer}
-use Rattle.model.specs.declared.Answer.TheVariants.{Refused}
+use Rattle.std.specs.Prelude.{Result, Ok, Err}
+use Rattle.constants.specs.declared.refusals.Refusal.{Refusal}
+use Rattle.constants.proofs.Numbers.{with_number, number_back}
+use Rattle.model.specs.declared.State.{State}
+use Rattle.model.specs.declared.State.TheVariants as state
+use Rattle.std.specs.Result.{result_unwrap_or}
+use Rattle.model.specs.Answer.{Answer, answer_of, shown_as}
+use Rattle.model.specs.Answer.{Never, Good, Held, Stale, Refused}
 use Rattle.model.specs.Layout.{Areas, areas, tables_fit, pages_fit, areas_fit, entry, port_at}
 use Rattle.model.specs.Ports.{valid_words, state_of}
 use Rattle.model.specs.Calls.{read_port, area_test, at_port, first_of, refusal, port_refusal, asked, part_for, fetched}
@@ -56,3 +62,28 @@ fetched_before m a =
         → cond b (part_for (asked m a) (valid_words m (entry m a))) [] ≡ part_for (cond b (asked m a) (Refused 1)) (valid_words m (entry m a))
     go true = refl
     go false = refl
+
+-- ---- what the call hands back is told by the answer that it is
+
+-- what is handed back for an answer
+abbrev handed : Answer → Result State Refusal
+handed Never = Ok state.Never
+handed Good = Ok state.Good
+handed Held = Ok state.Held
+handed Stale = Ok state.Stale
+handed (Refused n) = Err (with_number n)
+
+handed_back : (x : Result State Refusal) → handed (answer_of x) ≡ x
+handed_back (Ok state.Never) = refl
+handed_back (Ok state.Good) = refl
+handed_back (Ok state.Held) = refl
+handed_back (Ok state.Stale) = refl
+handed_back (Err e) = ap Err (number_back e)
+
+-- two results that are the same answer are equal
+pub one_answer_of : (x y : Result State Refusal) → answer_of x ≡ answer_of y → x ≡ y
+one_answer_of x y e = sym (handed_back x) ∙ ap handed e ∙ handed_back y
+
+-- so are two states
+pub one_shown : (x y : State) → shown_as x ≡ shown_as y → x ≡ y
+one_shown x y e = ap (λ (r : Result State Refusal). result_unwrap_or r state.Never) (one_answer_of (Ok x) (Ok y) e)

@@ -4,7 +4,7 @@ use Prim.Native.Nat.{ℕ, ◌+◌, ◌≤◌}
 use mathlib.Core.Path.{◌≡◌, refl, sym, ◌∙◌, ap, subst}
 use mathlib.Core.Logic.{◌⊎◌, inl, inr}
 use mathlib.Core.List.{List}
-use mathlib.Core.Option.{Option, some}
+use Rattle.std.specs.Prelude.{Option, Some}
 use native.Mathlib.Decide.{ℕ_discrete}
 use lib.ListN.{length}
 use borrow.Author.Tests.{ne_eqb}
@@ -24,7 +24,7 @@ use Rattle.model.proofs.ShapeKept.{at_here}
 -- n is m, but for ages, and for status bits of port o, if there is one
 pub record ButPort (o : Option ℕ) (m n : Areas) : Type 0 where
   pub only : StatusAndAges m n
-  pub same : (p : ℕ) → (o ≡ some p → ⊥) → ageless (port_at n p) ≡ ageless (port_at m p)
+  pub same : (p : ℕ) → (o ≡ Some p → ⊥) → ageless (port_at n p) ≡ ageless (port_at m p)
 
 -- words that are the same but for status bits and age
 abbrev Near : Words → Words → Type 0
@@ -52,22 +52,22 @@ near_page w v (inr e) =
 -- ---- the port words
 
 record Ports (o : Option ℕ) (l k : List ℕ) : Type 0 where
-  same : (p : ℕ) → (o ≡ some p → ⊥) → ageless (words_at k p) ≡ ageless (words_at l p)
+  same : (p : ℕ) → (o ≡ Some p → ⊥) → ageless (words_at k p) ≡ ageless (words_at l p)
   only : (p : ℕ) → Near (words_at l p) (words_at k p)
 
 -- the words of port p are set in both
 ports_with : (o : Option ℕ) (l k : List ℕ) (p : ℕ) (w v : Words) → place p + stride ≤ length l → place p + stride ≤ length k → ageless v ≡ ageless w
-    → Ports o l k → Ports (settle (some p) o) (with_words l p w) (with_words k p v)
+    → Ports o l k → Ports (settle (Some p) o) (with_words l p w) (with_words k p v)
 ports_with o l k p w v hl hk e h =
     record { same = λ q n. here q n (ℕ_discrete q p); only = λ q. there q (ℕ_discrete q p) }
   where
     set : (q : ℕ) → q ≡ p → ageless (words_at (with_words k p v) q) ≡ ageless (words_at (with_words l p w) q)
     set q i = rw i (ap ageless (words_same k p v hk) ∙ e ∙ sym (ap ageless (words_same l p w hl)))
 
-    left : (q : ℕ) → (q ≡ p → ⊥) → (settle (some p) o ≡ some q → ⊥) → o ≡ some q → ⊥
+    left : (q : ℕ) → (q ≡ p → ⊥) → (settle (Some p) o ≡ Some q → ⊥) → o ≡ Some q → ⊥
     left q ne n i = n (rw (i, ne_eqb p q (λ z. ne (sym z))))
 
-    here : (q : ℕ) → (settle (some p) o ≡ some q → ⊥) → Dec (q ≡ p)
+    here : (q : ℕ) → (settle (Some p) o ≡ Some q → ⊥) → Dec (q ≡ p)
         → ageless (words_at (with_words k p v) q) ≡ ageless (words_at (with_words l p w) q)
     here q n (yes i) = set q i
     here q n (no ne) = ap ageless (words_other k p q v ne) ∙ h.same q (left q ne n) ∙ sym (ap ageless (words_other l p q w ne))
@@ -83,7 +83,7 @@ module _ (o : Option ℕ) (m n : Areas) (s : Shape m) (t : Shape n) (b : ButPort
   ports = record { same = b.same; only = b.only.ports }
 
   with_port_lem : (p : ℕ) (w v : Words) → p ≤ 255 → ageless v ≡ ageless w
-      → Ports (settle (some p) o) (with_words m.ports p w) (with_words n.ports p v)
+      → Ports (settle (Some p) o) (with_words m.ports p w) (with_words n.ports p v)
   with_port_lem p w v h e =
       ports_with o m.ports n.ports p w v (room m s.fits p h) (room n t.fits p h) e ports
 

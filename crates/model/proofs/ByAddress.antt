@@ -3,7 +3,7 @@ use Prim.Native.Nat.{ℕ, ◌%◌}
 use mathlib.Core.Path.{◌≡◌, refl, sym, ◌∙◌, ap}
 use mathlib.Core.Bool.{Bool, true, false, cond, not, ◌&&◌}
 use mathlib.Core.List.{List, [], ◌∷◌, ◌++◌}
-use mathlib.Core.Option.{Option, none, some}
+use Rattle.std.specs.Prelude.{Option, None, Some}
 use native.Mathlib.Omega.{arith}
 use lib.Dec.{eqb}
 use lib.ListN.{length}
@@ -28,23 +28,23 @@ use Rattle.model.proofs.Invariant.{ToldBy}
 use Rattle.model.proofs.Told.{past_told}
 use Rattle.model.proofs.Finishes.{entry_told, hear_concerns}
 
-settle_none : (f : Option ℕ) → settle f none ≡ none
-settle_none none = refl
-settle_none (some p) = refl
+settle_none : (f : Option ℕ) → settle f None ≡ None
+settle_none None = refl
+settle_none (Some p) = refl
 
 waiting_port_lem : (past : List Call) → port_at_address past (waiting_address past) ≡ waiting_port past
 unfolding waiting_port waiting_address
 waiting_port_lem past = go (awaited past 0)
   where
     go : (o : Option ℕ) → port_at_address past (sink_at past o) ≡ sink_open past o
-    go none = refl
-    go (some w) = by (opening_of past (address_of w)) refl
+    go None = refl
+    go (Some w) = by (opening_of past (address_of w)) refl
       where
-        by : (q : Option Opening) → opening_of past (address_of w) ≡ q → port_at_address past (sink_at past (some w)) ≡ sink_open past (some w)
-        by none e = rw e
-        by (some q) e = rw e (on (eqb q.word w && q.sink))
+        by : (q : Option Opening) → opening_of past (address_of w) ≡ q → port_at_address past (sink_at past (Some w)) ≡ sink_open past (Some w)
+        by None e = rw e
+        by (Some q) e = rw e (on (eqb q.word w && q.sink))
           where
-            on : (b : Bool) → port_at_address past (cond b (some (address_of w)) none) ≡ cond b (some q.port) none
+            on : (b : Bool) → port_at_address past (cond b (Some (address_of w)) None) ≡ cond b (Some q.port) None
             on true = rw e
             on false = refl
 
@@ -55,108 +55,108 @@ module _ (past : List Call) (h : ToldBy past (after past)) where
   shown : ℕ → Opening → Standing
   shown a o = standing_with o (last_of (fillings past a o)) (length (fillings past a o) % 65536)
 
-  shows : (a : ℕ) (o : Opening) → opening_of past a ≡ some o → standing M a ≡ some (shown a o)
+  shows : (a : ℕ) (o : Opening) → opening_of past a ≡ Some o → standing M a ≡ Some (shown a o)
   unfolding shown
   shows a o e = h.holds.stands a ∙ rw e
 
-  same_number : (b a : ℕ) (q o : Opening) → opening_of past b ≡ some q → opening_of past a ≡ some o → eqb q.port o.port ≡ eqb b a
+  same_number : (b a : ℕ) (q o : Opening) → opening_of past b ≡ Some q → opening_of past a ≡ Some o → eqb q.port o.port ≡ eqb b a
   unfolding shown
   same_number b a q o eq eo = go (eqb b a) refl
     where
       go : (c : Bool) → eqb b a ≡ c → eqb q.port o.port ≡ c
       go true e =
-          let s : some q ≡ some o = sym eq ∙ ap (opening_of past) (eqb-true b a e) ∙ eo in
+          let s : Some q ≡ Some o = sym eq ∙ ap (opening_of past) (eqb-true b a e) ∙ eo in
           let w : q ≡ o = cc in
           eq-eqb _ _ (ap (λ (x : Opening). x.port) w)
       go false e = ne_eqb _ _ (λ p. eqb-false b a e (distinct M b a (shown b q) (shown a o) (shows b q eq) (shows a o eo) p))
 
   -- the port at address b is concerned
-  one_address : (b a : ℕ) (q : Opening) → opening_of past b ≡ some q
-      → cond (eqb b a) none (port_number (opening_of past a)) ≡ settle (some q.port) (port_number (opening_of past a))
+  one_address : (b a : ℕ) (q : Opening) → opening_of past b ≡ Some q
+      → cond (eqb b a) None (port_number (opening_of past a)) ≡ settle (Some q.port) (port_number (opening_of past a))
   one_address b a q e = go (opening_of past a) refl
     where
-      go : (o : Option Opening) → opening_of past a ≡ o → cond (eqb b a) none (port_number o) ≡ settle (some q.port) (port_number o)
-      go none i = by (eqb b a)
+      go : (o : Option Opening) → opening_of past a ≡ o → cond (eqb b a) None (port_number o) ≡ settle (Some q.port) (port_number o)
+      go None i = by (eqb b a)
         where
-          by : (c : Bool) → ◌≡◌ {A = Option ℕ} (cond c none none) none
+          by : (c : Bool) → ◌≡◌ {A = Option ℕ} (cond c None None) None
           by true = refl
           by false = refl
-      go (some o) i = rw (same_number b a q o e i)
+      go (Some o) i = rw (same_number b a q o e i)
 
   -- the port that waits is concerned, if k
   if_waiting : (k : Bool) (a : ℕ)
-      → port_at_address past (cond (k && is_word (waiting_address past) a) none (some a)) ≡ settle (cond k (waiting_port past) none) (port_number (opening_of past a))
+      → port_at_address past (cond (k && is_word (waiting_address past) a) None (Some a)) ≡ settle (cond k (waiting_port past) None) (port_number (opening_of past a))
   unfolding waiting_port waiting_address
   if_waiting false a = refl
   if_waiting true a = go (awaited past 0)
     where
-      numbers : (c : Bool) → port_at_address past (cond c none (some a)) ≡ cond c none (port_number (opening_of past a))
+      numbers : (c : Bool) → port_at_address past (cond c None (Some a)) ≡ cond c None (port_number (opening_of past a))
       numbers true = refl
       numbers false = refl
 
       go : (o : Option ℕ)
-          → port_at_address past (cond (is_word (sink_at past o) a) none (some a)) ≡ settle (sink_open past o) (port_number (opening_of past a))
-      go none = refl
-      go (some w) = by (opening_of past (address_of w)) refl
+          → port_at_address past (cond (is_word (sink_at past o) a) None (Some a)) ≡ settle (sink_open past o) (port_number (opening_of past a))
+      go None = refl
+      go (Some w) = by (opening_of past (address_of w)) refl
         where
           by : (q : Option Opening) → opening_of past (address_of w) ≡ q
-              → port_at_address past (cond (is_word (cond (is_sink_of w q) (some (address_of w)) none) a) none (some a))
-              ≡ settle (sink_open past (some w)) (port_number (opening_of past a))
-          by none e = rw e
-          by (some q) e = rw e (on (eqb q.word w && q.sink))
+              → port_at_address past (cond (is_word (cond (is_sink_of w q) (Some (address_of w)) None) a) None (Some a))
+              ≡ settle (sink_open past (Some w)) (port_number (opening_of past a))
+          by None e = rw e
+          by (Some q) e = rw e (on (eqb q.word w && q.sink))
             where
-              on : (b : Bool) → port_at_address past (cond (is_word (cond b (some (address_of w)) none) a) none (some a))
-                  ≡ settle (cond b (some q.port) none) (port_number (opening_of past a))
+              on : (b : Bool) → port_at_address past (cond (is_word (cond b (Some (address_of w)) None) a) None (Some a))
+                  ≡ settle (cond b (Some q.port) None) (port_number (opening_of past a))
               on true = numbers (eqb (address_of w) a) ∙ one_address (address_of w) a q e
               on false = refl
 
   -- address b alone changes
   at_one : (b a : ℕ) (x : Change) → touches x ≡ true
       → (c : Bool) → eqb b a ≡ c
-      → cond {A = Option ℕ} (touches (cond c x keeps)) none (port_number (leaves (cond c x keeps) (opening_of past a)))
-      ≡ cond c none (port_number (opening_of past a))
+      → cond {A = Option ℕ} (touches (cond c x keeps)) None (port_number (leaves (cond c x keeps) (opening_of past a)))
+      ≡ cond c None (port_number (opening_of past a))
   at_one b a x t true e = rw t
   at_one b a x t false e = refl
 
   touched : (b a : ℕ) (x : Change) → touches x ≡ true
       → (past' : List Call) → opening_of past' a ≡ leaves (cond (eqb b a) x keeps) (opening_of past a)
-      → port_at_address past' (cond (touches (cond (eqb b a) x keeps)) none (some a)) ≡ cond (eqb b a) none (port_number (opening_of past a))
+      → port_at_address past' (cond (touches (cond (eqb b a) x keeps)) None (Some a)) ≡ cond (eqb b a) None (port_number (opening_of past a))
   touched b a x t past' e = numbers (touches (cond (eqb b a) x keeps)) ∙ rw e (at_one b a x t (eqb b a) refl)
     where
-      numbers : (c : Bool) → port_at_address past' (cond c none (some a)) ≡ cond c none (port_number (opening_of past' a))
+      numbers : (c : Bool) → port_at_address past' (cond c None (Some a)) ≡ cond c None (port_number (opening_of past' a))
       numbers true = refl
       numbers false = refl
 
   -- the port that stands at address b, by its number
-  by_number : (b a : ℕ) → standing M b ≡ some (standing_of M (entry M b))
-      → cond (eqb b a) none (port_number (opening_of past a)) ≡ settle (some (entry M b)) (port_number (opening_of past a))
+  by_number : (b a : ℕ) → standing M b ≡ Some (standing_of M (entry M b))
+      → cond (eqb b a) None (port_number (opening_of past a)) ≡ settle (Some (entry M b)) (port_number (opening_of past a))
   by_number b a e = go (opening_of past b) refl (entry_told past M h.holds.stands b e)
     where
-      go : (o : Option Opening) → opening_of past b ≡ o → port_number o ≡ some (entry M b)
-          → cond (eqb b a) none (port_number (opening_of past a)) ≡ settle (some (entry M b)) (port_number (opening_of past a))
-      go none i z = let y : ◌≡◌ {A = ℕ} 0 1 = cc in absurd (omega arith)
-      go (some q) i z = let p : entry M b ≡ q.port = cc in rw p (one_address b a q i)
+      go : (o : Option Opening) → opening_of past b ≡ o → port_number o ≡ Some (entry M b)
+          → cond (eqb b a) None (port_number (opening_of past a)) ≡ settle (Some (entry M b)) (port_number (opening_of past a))
+      go None i z = let y : ◌≡◌ {A = ℕ} 0 1 = cc in absurd (omega arith)
+      go (Some q) i z = let p : entry M b ≡ q.port = cc in rw p (one_address b a q i)
 
   -- a free address and a free port
   by_free : (b p a : ℕ) → entry M b ≡ 0 → (port_at M p).flags ≡ 0
-      → cond (eqb b a) none (port_number (opening_of past a)) ≡ settle (some p) (port_number (opening_of past a))
+      → cond (eqb b a) None (port_number (opening_of past a)) ≡ settle (Some p) (port_number (opening_of past a))
   unfolding shown
   by_free b p a free unused = go (opening_of past a) refl
     where
-      go : (o : Option Opening) → opening_of past a ≡ o → cond (eqb b a) none (port_number o) ≡ settle (some p) (port_number o)
-      go none i = by (eqb b a)
+      go : (o : Option Opening) → opening_of past a ≡ o → cond (eqb b a) None (port_number o) ≡ settle (Some p) (port_number o)
+      go None i = by (eqb b a)
         where
-          by : (c : Bool) → ◌≡◌ {A = Option ℕ} (cond c none none) none
+          by : (c : Bool) → ◌≡◌ {A = Option ℕ} (cond c None None) None
           by true = refl
           by false = refl
-      go (some o) i =
+      go (Some o) i =
           let s = standing_at_lem M a (shown a o) (shows a o i) in
           let elsewhere : b ≡ a → ⊥ = λ e. let z : entry M a ≡ 0 = ap (entry M) (sym e) ∙ free in omega (arith, s.port, s.positive) in
           let other : p ≡ o.port → ⊥ = λ e. formed_used a (port_at M o.port) s.formed (rw (← e) unused) in
           rw (ne_eqb b a elsewhere, ne_eqb p o.port other)
 
   same_place : (past' : List Call) (a : ℕ) (c : Bool) → opening_of past' a ≡ opening_of past a
-      → port_at_address past' (cond c none (some a)) ≡ port_at_address past (cond c none (some a))
+      → port_at_address past' (cond c None (Some a)) ≡ port_at_address past (cond c None (Some a))
   same_place past' a true e = refl
   same_place past' a false e = ap port_number e
 
@@ -164,40 +164,40 @@ module _ (past : List Call) (h : ToldBy past (after past)) where
   step_number : (c : Call) → refusal c (after past) ≡ 0 → (x : Option ℕ)
       → port_at_address (c ∷ past) (remains (finished_by past (happening c)) x) ≡ settle (finished past c) (port_at_address past x)
   unfolding finished effect opening_of finishes
-  step_number c r none = sym (settle_none (finished past c))
-  step_number (hear x y) r (some a) =
+  step_number c r None = sym (settle_none (finished past c))
+  step_number (hear x y) r (Some a) =
       same_place (hear x y ∷ past) a (finished_by past (hears x y) a) refl ∙ if_waiting (is_slave (on_trusted past x y).kind) a
       ∙ ap (λ (f : Option ℕ). settle f (port_number (opening_of past a))) (hear_concerns past h x y)
-  step_number (quiet n) r (some a) = same_place (quiet n ∷ past) a (finished_by past (passes n) a) refl ∙ go (awaited past n)
+  step_number (quiet n) r (Some a) = same_place (quiet n ∷ past) a (finished_by past (passes n) a) refl ∙ go (awaited past n)
     where
-      go : (o : Option ℕ) → port_at_address past (cond (not (is_some o) && is_word (waiting_address past) a) none (some a)) ≡ settle (over o (waiting_port past)) (port_number (opening_of past a))
-      go none = if_waiting true a
-      go (some w) = refl
-  step_number (open_port b p code sink i limit) r (some a) = go (valid_open b p code sink i limit (after past) r)
+      go : (o : Option ℕ) → port_at_address past (cond (not (is_some o) && is_word (waiting_address past) a) None (Some a)) ≡ settle (over o (waiting_port past)) (port_number (opening_of past a))
+      go None = if_waiting true a
+      go (Some w) = refl
+  step_number (open_port b p code sink i limit) r (Some a) = go (valid_open b p code sink i limit (after past) r)
     where
       go : Valid M (opened b p code sink i limit)
-          → port_at_address (open_port b p code sink i limit ∷ past) (remains (finished_by past (happening (open_port b p code sink i limit))) (some a))
-          ≡ settle (some p) (port_number (opening_of past a))
+          → port_at_address (open_port b p code sink i limit ∷ past) (remains (finished_by past (happening (open_port b p code sink i limit))) (Some a))
+          ≡ settle (Some p) (port_number (opening_of past a))
       go (opening ha pos hp hc hi free unused) = touched b a _ refl (open_port b p code sink i limit ∷ past) refl ∙ by_free b p a free unused
-  step_number (close_port b) r (some a) = touched b a closes refl (close_port b ∷ past) refl ∙ by_number b a (found_close b (after past) r)
-  step_number (write_port b ws) r (some a) =
+  step_number (close_port b) r (Some a) = touched b a closes refl (close_port b ∷ past) refl ∙ by_number b a (found_close b (after past) r)
+  step_number (write_port b ws) r (Some a) =
       touched b a (writes ws) refl (write_port b ws ∷ past) refl ∙ by_number b a (found_write b ws (after past) r)
-  step_number (read_port b) r (some a) = refl
-  step_number (setting t) r (some a) = refl
+  step_number (read_port b) r (Some a) = refl
+  step_number (setting t) r (Some a) = refl
 
   -- a port stands at one address alone
-  pub here_alone : (x : Option ℕ) (a : ℕ) → port_at_address past x ≡ some (entry M a) → x ≡ some a
+  pub here_alone : (x : Option ℕ) (a : ℕ) → port_at_address past x ≡ Some (entry M a) → x ≡ Some a
   unfolding shown standing_of
-  here_alone none a e = let y : ◌≡◌ {A = ℕ} 0 1 = cc in absurd (omega arith)
-  here_alone (some b) a e = go (opening_of past b) refl e
+  here_alone None a e = let y : ◌≡◌ {A = ℕ} 0 1 = cc in absurd (omega arith)
+  here_alone (Some b) a e = go (opening_of past b) refl e
     where
-      go : (o : Option Opening) → opening_of past b ≡ o → port_number o ≡ some (entry M a) → some b ≡ some a
-      go none i z = let y : ◌≡◌ {A = ℕ} 0 1 = cc in absurd (omega arith)
-      go (some q) i z =
+      go : (o : Option Opening) → opening_of past b ≡ o → port_number o ≡ Some (entry M a) → Some b ≡ Some a
+      go None i z = let y : ◌≡◌ {A = ℕ} 0 1 = cc in absurd (omega arith)
+      go (Some q) i z =
           let p : q.port ≡ entry M a = cc in
           let s = standing_at_lem M b (shown b q) (shows b q i) in
           let there = at_entry M a h.holds.shape (λ n. omega (arith, p, n, s.positive)) in
-          ap some (distinct M b a (shown b q) (standing_of M (entry M a)) (shows b q i) there p)
+          ap Some (distinct M b a (shown b q) (standing_of M (entry M a)) (shows b q i) there p)
 
   -- what differs in status bits of the port at an address, by its number, differs so by its address
   pub at_address : (x : Option ℕ) (n : Areas) → ButPort (port_at_address past x) M n → ButStatus x M n
@@ -208,13 +208,13 @@ module _ (past : List Call) (h : ToldBy past (after past)) where
         same = λ p away. b.same p (other x p away);
       }
     where
-      other : (x : Option ℕ) (p : ℕ) → ((a : ℕ) → x ≡ some a → entry M a ≡ p → ⊥) → port_at_address past x ≡ some p → ⊥
-      other none p away e = let y : ◌≡◌ {A = ℕ} 0 1 = cc in omega arith
-      other (some a) p away e = go (opening_of past a) refl e
+      other : (x : Option ℕ) (p : ℕ) → ((a : ℕ) → x ≡ Some a → entry M a ≡ p → ⊥) → port_at_address past x ≡ Some p → ⊥
+      other None p away e = let y : ◌≡◌ {A = ℕ} 0 1 = cc in omega arith
+      other (Some a) p away e = go (opening_of past a) refl e
         where
-          go : (o : Option Opening) → opening_of past a ≡ o → port_number o ≡ some p → ⊥
-          go none i z = let y : ◌≡◌ {A = ℕ} 0 1 = cc in omega arith
-          go (some q) i z =
+          go : (o : Option Opening) → opening_of past a ≡ o → port_number o ≡ Some p → ⊥
+          go None i z = let y : ◌≡◌ {A = ℕ} 0 1 = cc in omega arith
+          go (Some q) i z =
               let number : q.port ≡ p = cc in
               away a refl (sym (standing_at_lem M a (shown a q) (shows a q i)).port ∙ number)
 

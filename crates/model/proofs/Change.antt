@@ -5,7 +5,7 @@ use mathlib.Core.Path.{◌≡◌, refl, sym, ◌∙◌}
 use mathlib.Core.Logic.{◌≢◌, ◌⊎◌, inl, inr, ⊎_elim, dite}
 use mathlib.Core.Bool.{Bool, true, false, cond}
 use mathlib.Core.List.{List}
-use mathlib.Core.Option.{Option, some}
+use Rattle.std.specs.Prelude.{Option, Some}
 use native.Mathlib.Decide.{ℕ_discrete}
 use native.Mathlib.Omega.{arith}
 use borrow.Author.Tests.{eq-eqb, ne_eqb}
@@ -135,7 +135,7 @@ module _ {m n : Areas} {a p e : ℕ} {w : Words} (c : Changed m n a p e w) where
     entries b =
         dite (ℕ_discrete b a)
         (λ same.
-        rw same (⊎_elim (λ none. inl (c.index.here ∙ none.0)) (λ one. inr (leads_here one.0 one.1)) c.after))
+        rw same (⊎_elim (λ None. inl (c.index.here ∙ None.0)) (λ one. inr (leads_here one.0 one.1)) c.after))
         (λ ne. ⊎_elim (λ z. inl (c.index.other b ne ∙ z)) (λ l. inr (leads_other b ne l)) (s.entries b))
 
     ports : (q : ℕ) → 0 < q → q ≤ 255 → ((port_at n q).flags ≡ 0) ⊎ (entry n (address_of (port_at n q).master) ≡ q)
@@ -143,7 +143,7 @@ module _ {m n : Areas} {a p e : ℕ} {w : Words} (c : Changed m n a p e w) where
         dite (ℕ_discrete q p)
         (λ same.
         rw (same, c.words_here)
-        (⊎_elim (λ none. inl none.1) (λ one. inr (rw (formed a w one.1).address (c.index.here ∙ one.0))) c.after))
+        (⊎_elim (λ None. inl None.1) (λ one. inr (rw (formed a w one.1).address (c.index.here ∙ one.0))) c.after))
         (λ ne.
         rw (c.words_other q ne)
         (⊎_elim inl
@@ -176,7 +176,7 @@ module _ {m n : Areas} {a p e : ℕ} {w : Words} (c : Changed m n a p e w) where
         (λ ne. rw (ne_eqb a b (λ same. ne (sym same))) (standing_other b ne))
 
   -- where a has the port p, it shows p
-  pub standing_here : 0 < p → e ≡ p → well_formed a w ≡ true → standing n a ≡ some (standing_of n p)
+  pub standing_here : 0 < p → e ≡ p → well_formed a w ≡ true → standing n a ≡ Some (standing_of n p)
   standing_here h ep f =
       let there : entry n a ≡ p = c.index.here ∙ ep in
       rw there at (standing_port n a (record { positive = rw there h; leads = leads_here ep f }))

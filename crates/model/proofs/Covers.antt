@@ -4,7 +4,7 @@ use Prim.Native.Nat.{ℕ}
 use mathlib.Core.Path.{◌≡◌, refl}
 use mathlib.Core.Bool.{Bool, true, false, not, true≢false}
 use mathlib.Core.List.{List, ◌∷◌}
-use mathlib.Core.Option.{Option, none, some}
+use Rattle.std.specs.Prelude.{Option, None, Some}
 use Rattle.frames.specs.declared.Kind.{Kind}
 use Rattle.frames.specs.declared.Kind.TheVariants.{Silence, Noise, Master, Slave}
 use Rattle.frames.specs.declared.Hearing.{Hearing}
@@ -46,8 +46,8 @@ all_else_harmless o h m r = by h.kind refl o refl
     by Silence e p q = refl
     by Noise e p q = refl
     by Master e p q = unsound (judged_master h) (λ s. m (record { kind = e; sound = s }))
-    by Slave e none q = refl
-    by Slave e (some w) q = unsound (judged_slave (code_of w) h) (λ s. r (record { word = w; waits = q; kind = e; sound = s }))
+    by Slave e None q = refl
+    by Slave e (Some w) q = unsound (judged_slave (code_of w) h) (λ s. r (record { word = w; waits = q; kind = e; sound = s }))
 
 -- So all that document 01 calls damage is damage here.
 pub damage_is : (past : List Call) (a b : Hearing) → (SoundMaster a → ⊥) → (SoundMaster b → ⊥) → (SoundReply (awaited past 0) a → ⊥)

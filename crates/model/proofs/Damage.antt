@@ -4,7 +4,7 @@ use Prim.Native.Nat.{ℕ, zero, suc}
 use mathlib.Core.Path.{◌≡◌, refl, sym, ◌∙◌, ap}
 use mathlib.Core.Bool.{true}
 use mathlib.Core.List.{List, [], ◌∷◌, ◌++◌}
-use mathlib.Core.Option.{none}
+use Rattle.std.specs.Prelude.{None}
 use native.Mathlib.Omega.{arith}
 use lib.ListN.{length}
 use borrow.Author.Tests.{leb-true}
@@ -176,7 +176,7 @@ earlier [] p acc = acc
 earlier (c ∷ later) p acc = earlier later p acc.2
 
 -- a slave frame is not answered
-pub slave_unanswered : (d : Device) (m : Areas) (y : Hearing) (x : Exchange) → answer_of d m (as_slave x y) ≡ none
+pub slave_unanswered : (d : Device) (m : Areas) (y : Hearing) (x : Exchange) → answer_of d m (as_slave x y) ≡ None
 slave_unanswered d m y Idle = refl
 slave_unanswered d m y (Waiting w) = refl
 slave_unanswered d m y Done = refl

@@ -4,7 +4,7 @@ use Prim.Native.Nat.{ℕ}
 use mathlib.Core.Path.{◌≡◌, refl}
 use mathlib.Core.Bool.{true, false}
 use mathlib.Core.List.{List, [], ◌∷◌, ◌++◌}
-use mathlib.Core.Option.{none, some}
+use Rattle.std.specs.Prelude.{None, Some}
 use lib.Count.{ones}
 use lib.ListN.{replicate}
 use Rattle.sequence.specs.Check.{push, pushes, rest, ones_of, check_of}
@@ -63,9 +63,9 @@ pub record Case : Type 0 where
   pub run : Accepted (later ++ (wrong ∷ before))
   pub damage : Damage before (wrong ∷ [])
   -- address 1 waits when the stretch begins, and is in doubt until the reply time has passed
-  pub waits : waiting_address before ≡ some 1
-  pub doubt : doubtful before (waiting_address before) again ≡ some 1
-  pub settled : doubtful before (waiting_address before) later ≡ none
+  pub waits : waiting_address before ≡ Some 1
+  pub doubt : doubtful before (waiting_address before) again ≡ Some 1
+  pub settled : doubtful before (waiting_address before) later ≡ None
   -- word 1 after the master frame: SINK, TERR, CRC and the mark with the slave frame, SINK alone without it
   pub with_it : (port_at (after (again ++ (wrong ∷ before))).areas 1).flags ≡ 616
   pub without : (port_at (after (again ++ before)).areas 1).flags ≡ 8

@@ -6,7 +6,7 @@ use mathlib.Core.Path.{◌≡◌, refl, ◌∙◌, ap}
 use mathlib.Core.Logic.{◌↔◌}
 use mathlib.Core.Bool.{Bool, true, false, cond}
 use mathlib.Core.List.{List, [], ◌∷◌}
-use mathlib.Core.Option.{none, some}
+use Rattle.std.specs.Prelude.{None, Some}
 use native.Mathlib.Omega.{arith}
 use lib.ListN.{length}
 use borrow.Author.Tests.{eq-eqb}
@@ -18,7 +18,7 @@ use Rattle.frames.specs.declared.Judgement.TheVariants.{Sound, Unsound as Bad}
 use Rattle.frames.specs.Hearing.{words_of}
 use Rattle.frames.specs.Judge.{judged_master, judged_slave}
 use Rattle.interrupts.specs.Names.{SFC}
-use Rattle.model.specs.declared.Answer.TheVariants.{Never, Refused}
+use Rattle.model.specs.Answer.{Never, Refused}
 use Rattle.model.specs.Ports.{code_of, address_of, has_ports, Standing, standing, viewed, view}
 use Rattle.model.specs.declared.Heard.{Heard}
 use Rattle.model.specs.declared.Lines.{Lines}
@@ -61,41 +61,41 @@ module _ (past : List Call) (run : Accepted past) where
   shows_told a = ap viewed ((past_told past run).holds.stands a) ∙ told_viewed past a (opening_of past a)
 
   -- Where no port was opened, asking says so.
-  pub ask_closed : (a : ℕ) → a < 4096 → opening_of past a ≡ none → asked now.areas a ≡ Refused 3
+  pub ask_closed : (a : ℕ) → a < 4096 → opening_of past a ≡ None → asked now.areas a ≡ Refused 3
   ask_closed a low e = asks_closed now.areas shaped a low ((past_told past run).holds.stands a ∙ ap (told_standing past a) e)
 
-  module _ (a : ℕ) (o : Opening) (stands : opening_of past a ≡ some o) where
+  module _ (a : ℕ) (o : Opening) (stands : opening_of past a ≡ Some o) where
     -- the words that filled the port since it was opened, the newest first
     abbrev filled : List (List ℕ)
     filled = fillings past a o
 
     -- An open port shows the last of them, or that there was none, and its fills are their number.
-    pub open_shows : view now.areas a ≡ some (view_with o (last_of filled) (length filled % 65536))
+    pub open_shows : view now.areas a ≡ Some (view_with o (last_of filled) (length filled % 65536))
     open_shows = shows_told a ∙ ap (told_view past a) stands
 
     by_side : (side : Bool) → o.sink ≡ side
         → let l = cond side (answers_since past a o.word) (writes_since past a) in
-        view now.areas a ≡ some (view_with o (last_of l) (length l % 65536))
+        view now.areas a ≡ Some (view_with o (last_of l) (length l % 65536))
     by_side side k =
         open_shows
-        ∙ ap (λ (l : List (List ℕ)). some (view_with o (last_of l) (length l % 65536)))
+        ∙ ap (λ (l : List (List ℕ)). Some (view_with o (last_of l) (length l % 65536)))
         (ap (λ (x : Bool). cond x (answers_since past a o.word) (writes_since past a)) k)
 
     -- Each open sink port shows the words of the last sound slave frame that answered its master frame since it was opened, or that
     -- there was none; its fills are the number of these frames (demand 2).
     pub sink_shows : o.sink ≡ true
         → let l = answers_since past a o.word in
-        view now.areas a ≡ some (view_with o (last_of l) (length l % 65536))
+        view now.areas a ≡ Some (view_with o (last_of l) (length l % 65536))
     sink_shows = by_side true
 
     -- Each open source port shows the words that the host last wrote to it since it was opened, or that there were none.
     pub source_shows : o.sink ≡ false
         → let l = writes_since past a in
-        view now.areas a ≡ some (view_with o (last_of l) (length l % 65536))
+        view now.areas a ≡ Some (view_with o (last_of l) (length l % 65536))
     source_shows = by_side false
 
     -- with its number
-    standing_told : standing now.areas a ≡ some (standing_with o (last_of filled) (length filled % 65536))
+    standing_told : standing now.areas a ≡ Some (standing_with o (last_of filled) (length filled % 65536))
     standing_told = (past_told past run).holds.stands a ∙ ap (told_standing past a) stands
 
     -- Asking answers never exactly where nothing filled the port since it was opened: an empty port says that it is empty.
@@ -156,8 +156,8 @@ module _ (past : List Call) (run : Accepted past) where
         ∙ taken_viewed _ (words_of heard_now) (standing now.areas e))
 
     -- The port that takes the frame raises its interrupt.
-    pub frame_raises : (e : ℕ) (v : Standing) → standing now.areas e ≡ some v → v.sink ≡ true → answers past a b v.word ≡ true
-        → (step (hear a b) now).controller.group0 ≡ raise_all (SFC ∷ interrupt_of (some v)) now.controller.group0
+    pub frame_raises : (e : ℕ) (v : Standing) → standing now.areas e ≡ Some v → v.sink ≡ true → answers past a b v.word ≡ true
+        → (step (hear a b) now).controller.group0 ≡ raise_all (SFC ∷ interrupt_of (Some v)) now.controller.group0
     unfolding answers step heard_by heard
     frame_raises e v there sink sound =
         let h = (past_told past run).holds in
@@ -167,12 +167,12 @@ module _ (past : List Call) (run : Accepted past) where
         (taken_raises now.areas heard_now heard_now.kind c.exchange c.times h.live e v there sink (rw (h.waits 0) sound)))
 
     -- A reply is given to a sound master frame alone.
-    pub no_other_reply : (SoundMaster heard_now → ⊥) → answer (hear a b) now ≡ none
+    pub no_other_reply : (SoundMaster heard_now → ⊥) → answer (hear a b) now ≡ None
     no_other_reply = no_other_reply_anywhere now a b
 
     module _ (m : SoundMaster heard_now) where
       -- Each reply is itself a sound slave frame for the code of the master frame that it answers.
-      pub reply_sound : (ws : List ℕ) → answer (hear a b) now ≡ some ws → judged_slave (code_of (first_word heard_now)) (sent ws) ≡ Sound
+      pub reply_sound : (ws : List ℕ) → answer (hear a b) now ≡ Some ws → judged_slave (code_of (first_word heard_now)) (sent ws) ≡ Sound
       reply_sound ws e = reply_sound_in now a b shaped.fits m ws e
 
       -- Each reply is exactly what the past tells, for every F-code: the words last written to the open source with this master word,
@@ -212,8 +212,8 @@ module _ (past : List Call) (run : Accepted past) where
             (ap (rule3 true) (poll_finds c.lines heard_now o m.kind)))
 
         -- Bit by bit: LAA and RLD at their places, whatever the host wrote there, and each other bit the host's.
-        pub status_bits : (s : ℕ) → (last_settings past).status ≡ some s
-            → (r : ℕ) × (answer (hear a b) now ≡ some (r ∷ [])) × LineBits (lines_polled past a b) s r
+        pub status_bits : (s : ℕ) → (last_settings past).status ≡ Some s
+            → (r : ℕ) × (answer (hear a b) now ≡ Some (r ∷ [])) × LineBits (lines_polled past a b) s r
         status_bits s e = (status_with (lines_polled past a b) s, status_reply ∙ rw e, line_bits (lines_polled past a b) s)
 
     -- So of every event, whatever it hears, the reply is a function of the past and of what the trusted line heard.
@@ -221,7 +221,7 @@ module _ (past : List Call) (run : Accepted past) where
     unfolding reply_in
     reply_told_lem = by heard_now.kind refl (judged_master heard_now) refl
       where
-        other : (heard_now.kind ≡ MasterFrame → ⊥) → answer (hear a b) now ≡ none
+        other : (heard_now.kind ≡ MasterFrame → ⊥) → answer (hear a b) now ≡ None
         other n = no_other_reply (λ m. n m.kind)
 
         by : (k : Kind) → heard_now.kind ≡ k → (j : Judgement) → judged_master heard_now ≡ j

@@ -10,8 +10,8 @@ use lib.Dec.{eqb}
 use lib.ListN.{length}
 use borrow.Author.Tests.{eqb-true, ltb-false}
 use Rattle.frames.specs.Size.{sizes, expected_of}
-use Rattle.model.specs.declared.Answer.{Answer}
-use Rattle.model.specs.declared.Answer.TheVariants.{Never, Good, Held, Stale, Refused}
+use Rattle.model.specs.Answer.{Answer}
+use Rattle.model.specs.Answer.{Never, Good, Held, Stale, Refused}
 use Rattle.model.specs.Layout.{Areas, pages_fit, entry, port_at, flags_of}
 use Rattle.model.specs.Ports.{code_of, size_of, well_formed, valid_words, state_of}
 use Rattle.model.specs.Calls.{read_port, bad_entry, no_port, bad_words, fresh_over, port_refusal, asked, ShowsNone, part_for, fetched}

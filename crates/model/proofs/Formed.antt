@@ -1,6 +1,6 @@
 -- The tests on areas and port words as facts: the four lengths, and the parts of well formed words. Filling, marking and opening
 -- leave well formed words, since flags put together are read back; and no port has more than sixteen words. Assumes nothing.
-use mathlib.Core.Option.{Option, none, some}
+use Rattle.std.specs.Prelude.{Option, None, Some}
 use Prim.Native.Nat.{ℕ, ◌+◌, ◌*◌, ◌≤◌, ◌<◌}
 use mathlib.Core.Path.{◌≡◌, refl, sym, ◌∙◌}
 use mathlib.Core.Bool.{Bool, true, false, not, ◌&&◌, false≢true, and-eq-true_iff}
@@ -183,5 +183,5 @@ unfolding size_of
 size_small code = go (expected_of code) refl
   where
     go : (x : Option ℕ) → expected_of code ≡ x → words_in x ≤ 16
-    go (some n) e = longest code n e
-    go none e = omega arith
+    go (Some n) e = longest code n e
+    go None e = omega arith

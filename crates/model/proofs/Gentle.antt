@@ -4,7 +4,7 @@ use Prim.Native.Nat.{ℕ}
 use mathlib.Core.Path.{◌≡◌, refl, sym, ◌∙◌, ap}
 use mathlib.Core.Logic.{◌⊎◌, inl, inr}
 use mathlib.Core.Bool.{true, not, false≢true}
-use mathlib.Core.Option.{Option, none, some}
+use Rattle.std.specs.Prelude.{Option, None, Some}
 use native.Mathlib.Omega.{arith}
 use native.Mathlib.Decide.{ℕ_discrete}
 use Rattle.frames.specs.declared.Kind.{Kind}
@@ -37,12 +37,12 @@ use Rattle.model.proofs.Same.{Alike}
 
 -- a reply time that is reached changes status bits alone
 pub gentle_late : (m : Areas) (o : Option ℕ) → Gentle (effect_later m o)
-gentle_late m none = still
-gentle_late m (some w) = go (sink_for m w)
+gentle_late m None = still
+gentle_late m (Some w) = go (sink_for m w)
   where
     go : (o : Option Standing) → Gentle (missed o)
-    go none = still
-    go (some v) = marks
+    go None = still
+    go (Some v) = marks
 
 -- a harmless hearing changes status bits alone
 pub gentle_heard : (m : Areas) (t : Times) (h : Hearing) (k : Kind) (x : Exchange) → Live x t → harmless k (wait_now x t 0) h ≡ true
@@ -60,9 +60,9 @@ gentle_heard m t h SlaveFrame (Waiting w) l e =
     go (sink_for m w) (judged_slave (code_of w) h) (ap (λ (o : Option ℕ). harmless SlaveFrame o h) (sym (waits_now w t l)) ∙ e)
   where
     go : (o : Option Standing) (j : Judgement) → not (is_sound j) ≡ true → Gentle (taken o j h)
-    go none j e = still
-    go (some v) Sound e = absurd (false≢true e)
-    go (some v) (Bad wrong) e = marks
+    go None j e = still
+    go (Some v) Sound e = absurd (false≢true e)
+    go (Some v) (Bad wrong) e = marks
 
 -- ---- areas that differ in status bits and ages alone
 

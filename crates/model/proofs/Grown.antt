@@ -3,7 +3,7 @@
 use Prim.Native.Nat.{ℕ, zero, suc, ◌+◌, ◌/◌, ◌%◌, ◌≤◌, ◌<◌}
 use mathlib.Core.Path.{◌≡◌, refl, sym, ◌∙◌, ap, ap₂}
 use mathlib.Core.Bool.{Bool, true, false, cond}
-use mathlib.Core.Option.{Option, none, some}
+use Rattle.std.specs.Prelude.{Option, None, Some}
 use native.Mathlib.Omega.{arith}
 use borrow.Author.Tests.{leb-true, leb-false, eqb-true, eq-eqb, ne_eqb}
 use lib.Dec.{eqb}
@@ -24,8 +24,8 @@ use Rattle.model.proofs.Ageing.{aged_ages, ages_same, fits_ages, standing_ages, 
 -- a reply that is missing has the same effect
 late_effect : {m n : Areas} → ButAges m n → (o : Option ℕ) → effect_later n o ≡ effect_later m o
 unfolding port_for
-late_effect b none = refl
-late_effect b (some w) = rw (standing_ages b (address_of w))
+late_effect b None = refl
+late_effect b (Some w) = rw (standing_ages b (address_of w))
 
 late_aged : (k : ℕ) (m : Areas) → areas_fit m ≡ true → (o : Option ℕ)
     → apply (effect_later (aged k m) o) (aged k m) ≡ aged k (apply (effect_later m o) m)
@@ -33,12 +33,12 @@ unfolding apply
 late_aged k m fits o = ap (λ (e : Effect). apply e (aged k m)) (late_effect (aged_ages k m fits) o) ∙ by o
   where
     by : (o : Option ℕ) → apply (effect_later m o) (aged k m) ≡ aged k (apply (effect_later m o) m)
-    by none = refl
-    by (some w) = go (sink_for m w) refl
+    by None = refl
+    by (Some w) = go (sink_for m w) refl
       where
         go : (f : Option Standing) → sink_for m w ≡ f → apply (missed f) (aged k m) ≡ aged k (apply (missed f) m)
-        go none e = refl
-        go (some v) e =
+        go None e = refl
+        go (Some v) e =
             let at = standing_at_lem m (address_of w) v (sink_open_lem m w v e).there in
             aged_mark k m (address_of w) v.port _ fits at.small at.formed
 
@@ -53,12 +53,12 @@ pulse_grown s fits = go (millisecond_ends s)
 
 late_fits : (m : Areas) → areas_fit m ≡ true → (o : Option ℕ) → areas_fit (apply (effect_later m o) m) ≡ true
 unfolding apply
-late_fits m fits none = fits
-late_fits m fits (some w) = go (sink_for m w)
+late_fits m fits None = fits
+late_fits m fits (Some w) = go (sink_for m w)
   where
     go : (f : Option Standing) → areas_fit (apply (missed f) m) ≡ true
-    go none = fits
-    go (some v) = port_fits m v.port _ fits
+    go None = fits
+    go (Some v) = port_fits m v.port _ fits
 
 -- the areas keep their lengths
 pub pulse_fits : (s : World) → areas_fit s.areas ≡ true → areas_fit (pulse s).areas ≡ true
@@ -83,7 +83,7 @@ phase_ended : (p n : ℕ) → millisecond ≤ p + 1 → phase_after 0 n ≡ phas
 phase_ended p n h = rw (ne_eqb (ends_within p (suc n)) 0 (λ e. omega arith)) (go (eqb (ends_within 0 n) 0) refl)
   where
     go : (b : Bool) → eqb (ends_within 0 n) 0 ≡ b → cond b (0 + n) ((phase_reached 0 + n) % millisecond) ≡ (phase_reached p + suc n) % millisecond
-    go true e = let none : ends_within 0 n ≡ 0 = eqb-true _ _ e in omega arith
+    go true e = let None : ends_within 0 n ≡ 0 = eqb-true _ _ e in omega arith
     go false e = omega arith
 
 ages_ended : (p n : ℕ) (m : Areas) → areas_fit m ≡ true → millisecond ≤ p + 1
@@ -91,7 +91,7 @@ ages_ended : (p n : ℕ) (m : Areas) → areas_fit m ≡ true → millisecond �
 ages_ended p n m fits h = rw (ne_eqb (ends_within p (suc n)) 0 (λ e. omega arith)) (go (eqb (ends_within 0 n) 0) refl)
   where
     go : (b : Bool) → eqb (ends_within 0 n) 0 ≡ b → cond b (aged 1 m) (aged (ends_within 0 n) (aged 1 m)) ≡ aged (ends_within p (suc n)) m
-    go true e = let none : ends_within 0 n ≡ 0 = eqb-true _ _ e in ap (λ (k : ℕ). aged k m) (omega arith)
+    go true e = let None : ends_within 0 n ≡ 0 = eqb-true _ _ e in ap (λ (k : ℕ). aged k m) (omega arith)
     go false e = aged_twice (ends_within 0 n) 1 m fits ∙ ap (λ (k : ℕ). aged k m) (omega arith)
 
 -- it has not

@@ -2,7 +2,7 @@
 use Prim.Native.Nat.{ℕ, zero, suc, ◌+◌, ◌≤◌}
 use mathlib.Core.Path.{◌≡◌, refl, ◌∙◌, ap}
 use mathlib.Core.Bool.{true}
-use mathlib.Core.Option.{Option, none, some}
+use Rattle.std.specs.Prelude.{Option, None, Some}
 use native.Mathlib.Nat.{zero-add}
 use native.Mathlib.Omega.{arith}
 use Rattle.model.specs.declared.Exchange.{Exchange}
@@ -37,22 +37,22 @@ missed_valid : (m : Areas) (w : ℕ) → Valid m (missed (sink_for m w))
 missed_valid m w = go (sink_for m w) refl
   where
     go : (o : Option Standing) → sink_for m w ≡ o → Valid m (missed o)
-    go none e = nothing
-    go (some v) e = marking (sink_at_lem m w v e)
+    go None e = nothing
+    go (Some v) e = marking (sink_at_lem m w v e)
 
 -- what a reply time that is reached does to the areas is valid
 pub later_valid : (m : Areas) (o : Option ℕ) → Valid m (effect_later m o)
-later_valid m none = nothing
-later_valid m (some w) = missed_valid m w
+later_valid m None = nothing
+later_valid m (Some w) = missed_valid m w
 
 -- and it is seen at no address
 pub unseen : (m : Areas) (o : Option ℕ) (a : ℕ) (v : Option Standing) → standing_after (effect_later m o) a v ≡ v
-unseen m none a v = refl
-unseen m (some w) a v = go (sink_for m w)
+unseen m None a v = refl
+unseen m (Some w) a v = go (sink_for m w)
   where
     go : (o : Option Standing) → standing_after (missed o) a v ≡ v
-    go none = refl
-    go (some u) = refl
+    go None = refl
+    go (Some u) = refl
 
 -- a world whose areas, exchange and times hold so
 abbrev pub HoldsAt : (ℕ → Option ℕ) → (ℕ → Option Standing) → World → Type 0

@@ -3,7 +3,7 @@ use Prim.Native.Nat.{ℕ, ◌%◌, ◌≤◌, ◌<◌, min}
 use mathlib.Core.Path.{◌≡◌, refl, sym, ◌∙◌, ap, ap₂, subst, subst₂}
 use mathlib.Core.Bool.{Bool, true, false, cond, ◌||◌, true≢false, false≢true}
 use mathlib.Core.List.{List, [], ◌∷◌}
-use mathlib.Core.Option.{Option, none, some}
+use Rattle.std.specs.Prelude.{Option, None, Some}
 use native.Mathlib.Omega.{arith}
 use lib.Dec.{eqb, lit<, lit≤}
 use lib.ListN.{length}
@@ -38,8 +38,8 @@ use Rattle.model.proofs.Replies.{status_now}
 told_same : (past more : List Call) (a : ℕ) (o : Option Opening) → ((w : ℕ) → answers_since more a w ≡ answers_since past a w)
     → writes_since more a ≡ writes_since past a
     → told_standing past a o ≡ told_standing more a o
-told_same past more a none f g = refl
-told_same past more a (some o) f g = rw (f o.word, g)
+told_same past more a None f g = refl
+told_same past more a (Some o) f g = rw (f o.word, g)
 
 -- the invariant holds after quiet time
 pub quiet_told : (past : List Call) (n : ℕ) → ToldBy past (after past) → ToldBy (quiet n ∷ past) (step (quiet n) (after past))
@@ -70,18 +70,18 @@ quiet_told past n h =
 -- a change of an address, as what stands there has it
 abbrev standing_by : Change → Option Standing → Option Standing
 standing_by keeps v = v
-standing_by (opens o) v = some (standing_with o none 0)
-standing_by closes v = none
-standing_by (writes ws) none = none
-standing_by (writes ws) (some v) = some (refill ws v)
+standing_by (opens o) v = Some (standing_with o None 0)
+standing_by closes v = None
+standing_by (writes ws) None = None
+standing_by (writes ws) (Some v) = Some (refill ws v)
 
 -- words are written to a source
 abbrev ToSource : Change → Option Standing → Type 0
 ToSource keeps v = Unit
 ToSource (opens o) v = Unit
 ToSource closes v = Unit
-ToSource (writes ws) none = Unit
-ToSource (writes ws) (some v) = v.sink ≡ false
+ToSource (writes ws) None = Unit
+ToSource (writes ws) (Some v) = v.sink ≡ false
 
 module _ (past : List Call) (c : Call) (f : ℕ → Change) (h : happening c ≡ changes f) where
   standing_told : (a : ℕ) → ToSource (f a) (told_standing past a (opening_of past a))
@@ -95,12 +95,12 @@ module _ (past : List Call) (c : Call) (f : ℕ → Change) (h : happening c ≡
 
       go : (x : Change) → f a ≡ x → (o : Option Opening) → ToSource x (told_standing past a o)
           → standing_by x (told_standing past a o) ≡ told_standing (c ∷ past) a (leaves x o)
-      go keeps e none t = refl
-      go keeps e (some o) t = rw (h, e)
+      go keeps e None t = refl
+      go keeps e (Some o) t = rw (h, e)
       go (opens o) e p t = rw (h, e, either o.sink)
       go closes e o t = refl
-      go (writes ws) e none t = refl
-      go (writes ws) e (some o) t = rw (h, e) (by o.sink t)
+      go (writes ws) e None t = refl
+      go (writes ws) e (Some o) t = rw (h, e) (by o.sink t)
         where
           ss : List (List ℕ)
           ss = answers_since past a o.word
@@ -109,10 +109,10 @@ module _ (past : List Call) (c : Call) (f : ℕ → Change) (h : happening c ≡
           wr = writes_since past a
 
           by : (k : Bool) → k ≡ false
-              → ◌≡◌ {A = Option Standing} (some (refill ws (standing_with o (last_of (cond k ss wr)) (length (cond k ss wr) % 65536))))
-              (some (standing_with o (last_of (cond k ss (ws ∷ wr))) (length (cond k ss (ws ∷ wr)) % 65536)))
+              → ◌≡◌ {A = Option Standing} (Some (refill ws (standing_with o (last_of (cond k ss wr)) (length (cond k ss wr) % 65536))))
+              (Some (standing_with o (last_of (cond k ss (ws ∷ wr))) (length (cond k ss (ws ∷ wr)) % 65536)))
           by true q = absurd (true≢false q)
-          by false q = ap (λ (n : ℕ). some (standing_with o (some ws) n)) (omega arith)
+          by false q = ap (λ (n : ℕ). Some (standing_with o (Some ws) n)) (omega arith)
 
   area_told : (e : Effect) → Valid (after past).areas e
       → ((a : ℕ) (v : Option Standing) → standing (after past).areas a ≡ v → ToSource (f a) v × (standing_after e a v ≡ standing_by (f a) v))
@@ -150,7 +150,7 @@ open_told past b p code sink i limit r =
   where
     go : (k : Bool) (v : Option Standing)
         → ToSource (cond k (opens (opening b p code sink i limit)) keeps) v
-        × (cond k (some (just_opened b p code sink i limit)) v ≡ standing_by (cond k (opens (opening b p code sink i limit)) keeps) v)
+        × (cond k (Some (just_opened b p code sink i limit)) v ≡ standing_by (cond k (opens (opening b p code sink i limit)) keeps) v)
     go true v = (tt, refl)
     go false v = (tt, refl)
 
@@ -161,17 +161,17 @@ unfolding step effect
 close_told past b r =
     area_told past (close_port b) _ refl (closed b (entry (after past).areas b)) (valid_close b (after past) r) (λ a v e. go (eqb b a) v)
   where
-    go : (k : Bool) (v : Option Standing) → ToSource (cond k closes keeps) v × (cond k none v ≡ standing_by (cond k closes keeps) v)
+    go : (k : Bool) (v : Option Standing) → ToSource (cond k closes keeps) v × (cond k None v ≡ standing_by (cond k closes keeps) v)
     go true v = (tt, refl)
     go false v = (tt, refl)
 
 -- the port of address b is that of address a exactly if they are one
-one_address : (m : Areas) (b a : ℕ) (u v : Standing) → standing m b ≡ some u → standing m a ≡ some v → eqb v.port u.port ≡ eqb b a
+one_address : (m : Areas) (b a : ℕ) (u v : Standing) → standing m b ≡ Some u → standing m a ≡ Some v → eqb v.port u.port ≡ eqb b a
 one_address m b a u v eu ev = go (eqb b a) refl
   where
     go : (c : Bool) → eqb b a ≡ c → eqb v.port u.port ≡ c
     go true e =
-        let same : some u ≡ some v = sym eu ∙ ap (standing m) (eqb-true b a e) ∙ ev in
+        let same : Some u ≡ Some v = sym eu ∙ ap (standing m) (eqb-true b a e) ∙ ev in
         let w : u ≡ v = cc in
         eq-eqb _ _ (sym (ap (λ (x : Standing). x.port) w))
     go false e = ne_eqb _ _ (λ p. eqb-false b a e (sym (distinct m a b v u ev eu p)))
@@ -186,18 +186,18 @@ module _ (past : List Call) (b : ℕ) (ws : List ℕ) (r : refusal (write_port b
   written_seen : (a : ℕ) (v : Option Standing) → standing M a ≡ v
       → ToSource (cond (eqb b a) (writes ws) keeps) v × (refill_if (entry M b) ws v ≡ standing_by (cond (eqb b a) (writes ws) keeps) v)
   unfolding standing_of
-  written_seen a none e = go (eqb b a)
+  written_seen a None e = go (eqb b a)
     where
-      go : (k : Bool) → ToSource (cond k (writes ws) keeps) none × (none ≡ standing_by (cond k (writes ws) keeps) none)
+      go : (k : Bool) → ToSource (cond k (writes ws) keeps) None × (None ≡ standing_by (cond k (writes ws) keeps) None)
       go true = (tt, refl)
       go false = (tt, refl)
-  written_seen a (some v) e = rw (one_address M b a there v (found_write b ws (after past) r) e) (go (eqb b a) refl)
+  written_seen a (Some v) e = rw (one_address M b a there v (found_write b ws (after past) r) e) (go (eqb b a) refl)
     where
       go : (k : Bool) → eqb b a ≡ k
-          → ToSource (cond k (writes ws) keeps) (some v)
-          × (some (cond k (refill ws v) v) ≡ standing_by (cond k (writes ws) keeps) (some v))
+          → ToSource (cond k (writes ws) keeps) (Some v)
+          × (Some (cond k (refill ws v) v) ≡ standing_by (cond k (writes ws) keeps) (Some v))
       go true z =
-          let same : some there ≡ some v = sym (found_write b ws (after past) r) ∙ ap (standing M) (eqb-true b a z) ∙ e in
+          let same : Some there ≡ Some v = sym (found_write b ws (after past) r) ∙ ap (standing M) (eqb-true b a z) ∙ e in
           let w : there ≡ v = cc in
           (sym (ap (λ (x : Standing). x.sink) w) ∙ write_source b ws (after past) r, refl)
       go false z = (tt, refl)
@@ -222,7 +222,7 @@ set_stands past t m v a = v a ∙ told_same past (setting t ∷ past) a (opening
 
 -- a fresh controller, where the past tells that nothing is waited for or set or was counted
 pub fresh_told : (past : List Call) (m : Areas) → Shape m → ((a : ℕ) → standing m a ≡ told_standing past a (opening_of past a))
-    → ((q : ℕ) → awaited past q ≡ none) → last_settings past ≡ fresh_settings → frames_judged past ≡ 0 → frames_unsound past ≡ 0
+    → ((q : ℕ) → awaited past q ≡ None) → last_settings past ≡ fresh_settings → frames_judged past ≡ 0 → frames_unsound past ≡ 0
     → Told past fresh_controller m
 unfolding fresh_controller
 fresh_told past m shape stands waits set judged unsound =

@@ -4,7 +4,7 @@ use Prim.Native.Nat.{ℕ, suc, ◌+◌, ◌%◌, ◌≤◌, ◌<◌, min}
 use mathlib.Core.Path.{◌≡◌, refl, sym, ◌∙◌, ap}
 use mathlib.Core.Bool.{Bool, true, false, cond, not, ◌&&◌}
 use mathlib.Core.List.{List, ◌∷◌}
-use mathlib.Core.Option.{Option, none, some}
+use Rattle.std.specs.Prelude.{Option, None, Some}
 use native.Mathlib.Omega.{arith}
 use lib.Dec.{ltb}
 use lib.ListN.{length}
@@ -59,8 +59,8 @@ pub record Told (past : List Call) (c : Controller) (m : Areas) : Type 0 where
 hear_standing : (past : List Call) (x y : Hearing) (a : ℕ) (o : Option Opening)
     → taken_by (answers past x y) (words_of (on_trusted past x y)) (told_standing past a o) ≡ told_standing (hear x y ∷ past) a o
 unfolding answers_since writes_since
-hear_standing past x y a none = refl
-hear_standing past x y a (some o) = go o.sink (answers past x y o.word)
+hear_standing past x y a None = refl
+hear_standing past x y a (Some o) = go o.sink (answers past x y o.word)
   where
     ws : List ℕ
     ws = words_of (on_trusted past x y)
@@ -73,16 +73,16 @@ hear_standing past x y a (some o) = go o.sink (answers past x y o.word)
 
     go : (b c : Bool)
         → ◌≡◌ {A = Option Standing}
-        (some (cond (b && c) (refill ws (standing_with o (last_of (cond b ss wr)) (length (cond b ss wr) % 65536)))
+        (Some (cond (b && c) (refill ws (standing_with o (last_of (cond b ss wr)) (length (cond b ss wr) % 65536)))
         (standing_with o (last_of (cond b ss wr)) (length (cond b ss wr) % 65536))))
-        (some (standing_with o (last_of (cond b (cond c (ws ∷ ss) ss) wr)) (length (cond b (cond c (ws ∷ ss) ss) wr) % 65536)))
-    go true true = ap (λ (n : ℕ). some (standing_with o (some ws) n)) (omega arith)
+        (Some (standing_with o (last_of (cond b (cond c (ws ∷ ss) ss) wr)) (length (cond b (cond c (ws ∷ ss) ss) wr) % 65536)))
+    go true true = ap (λ (n : ℕ). Some (standing_with o (Some ws) n)) (omega arith)
     go true false = refl
     go false c = refl
 
 -- the counts: one more frame judged, or one more unsound
 counted_one : (n : Counts) (f u : ℕ) (j : Judgement) → n.fc ≡ f % 65536 → n.ec ≡ min u 65535
-    → ((judged_one (not (is_sound j)) n).fc ≡ suc f % 65536) × ((judged_one (not (is_sound j)) n).ec ≡ min (add_unsound (some j) u) 65535)
+    → ((judged_one (not (is_sound j)) n).fc ≡ suc f % 65536) × ((judged_one (not (is_sound j)) n).ec ≡ min (add_unsound (Some j) u) 65535)
 counted_one n f u Sound ef eu = (omega arith, eu)
 counted_one n f u (Bad wrong) ef eu = (omega arith, go (ltb n.ec 65535) refl)
   where
@@ -94,7 +94,7 @@ module _ (n : Counts) (f u : ℕ) (ef : n.fc ≡ f % 65536) (eu : n.ec ≡ min u
   abbrev Counted : Counts → Option Judgement → Type 0
   Counted e j = (e.fc ≡ add_judged j f % 65536) × (e.ec ≡ min (add_unsound j u) 65535)
 
-  by_master : (j : Judgement) → Counted (counts_after n (as_master j h)) (some j)
+  by_master : (j : Judgement) → Counted (counts_after n (as_master j h)) (Some j)
   by_master Sound = counted_one n f u Sound ef eu
   by_master (Bad wrong) = counted_one n f u (Bad wrong) ef eu
 

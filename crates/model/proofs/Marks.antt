@@ -4,7 +4,8 @@ use Prim.Native.Nat.{ℕ, zero, suc, ◌≤◌}
 use mathlib.Core.Path.{◌≡◌, refl, sym, ◌∙◌, ap}
 use mathlib.Core.Bool.{Bool, true, false, cond, not, ◌&&◌}
 use mathlib.Core.List.{List}
-use mathlib.Core.Option.{Option, none, some, none-ne-some, some-injective}
+use Rattle.std.specs.Prelude.{Option, None, Some}
+use Rattle.std.proofs.lemmas.Option.{none-some, same_Some}
 use native.Mathlib.Omega.{arith}
 use Rattle.frames.specs.declared.Hearing.{Hearing}
 use Rattle.frames.specs.declared.Wrong.{Wrong}
@@ -70,7 +71,7 @@ module _ (m : Areas) (fits : areas_fit m ≡ true) (p : ℕ) (small : p ≤ 255)
 
 -- ---- after each end of an exchange
 
-module _ (m : Areas) (fits : areas_fit m ≡ true) (w : ℕ) (v : Standing) (found : sink_for m w ≡ some v) where
+module _ (m : Areas) (fits : areas_fit m ≡ true) (w : ℕ) (v : Standing) (found : sink_for m w ≡ Some v) where
   small : v.port ≤ 255
   small = (standing_at_lem m (address_of w) v (sink_open_lem m w v found).there).small
 
@@ -80,7 +81,7 @@ module _ (m : Areas) (fits : areas_fit m ≡ true) (w : ℕ) (v : Standing) (fou
   taken_shown (Bad wrong) h = rw found (mark_sets m fits v.port small (reply_bad wrong h.sqe h.alo))
 
   -- a reply that did not come leaves none
-  missed_shown : marks_at (apply (effect_later m (some w)) m) v.port ≡ 0
+  missed_shown : marks_at (apply (effect_later m (Some w)) m) v.port ≡ 0
   missed_shown = rw found (mark_sets m fits v.port small reply_missing)
 
 -- ---- after quiet time
@@ -99,27 +100,27 @@ idle_quiet : (n : ℕ) (s : World) → s.controller.exchange ≡ Idle → (pulse
 unfolding pulses apply
 idle_quiet zero s e = refl
 idle_quiet (suc n) s e =
-    let nothing-due : due s ≡ none = ap (λ x. expired x s.controller.times) e in
-    idle_quiet n (pulse s) (pulse_exchange s none nothing-due ∙ e) ∙ pulse_areas s none nothing-due
+    let nothing-due : due s ≡ None = ap (λ x. expired x s.controller.times) e in
+    idle_quiet n (pulse s) (pulse_exchange s None nothing-due ∙ e) ∙ pulse_areas s None nothing-due
 
 -- a reply time reached within n quiet bit times leaves no mark
-late_shown : (n : ℕ) (s : World) (w : ℕ) (v : Standing) → areas_fit s.areas ≡ true → due_within n s ≡ some w → sink_for s.areas w ≡ some v
+late_shown : (n : ℕ) (s : World) (w : ℕ) (v : Standing) → areas_fit s.areas ≡ true → due_within n s ≡ Some w → sink_for s.areas w ≡ Some v
     → marks_at (pulses n s).areas v.port ≡ 0
 unfolding pulses due_within apply
-late_shown zero s w v fits d found = absurd (none-ne-some w d)
+late_shown zero s w v fits d found = absurd (none-some w d)
 late_shown (suc n) s w v fits d found = go (due s) refl (late_shown n (pulse s) w v)
   where
     go : (o : Option ℕ) → due s ≡ o
-        → (areas_fit (pulse s).areas ≡ true → due_within n (pulse s) ≡ some w → sink_for (pulse s).areas w ≡ some v
+        → (areas_fit (pulse s).areas ≡ true → due_within n (pulse s) ≡ Some w → sink_for (pulse s).areas w ≡ Some v
         → marks_at (pulses n (pulse s)).areas v.port ≡ 0)
         → marks_at (pulses n (pulse s)).areas v.port ≡ 0
-    go (some u) e later =
-        let same : u ≡ w = some-injective u w (rw e at d) in
-        let missed = pulse_areas s (some u) e ∙ ap (λ x. apply (effect_later s.areas (some x)) s.areas) same in
-        ap (λ m. marks_at m v.port) (idle_quiet n (pulse s) (pulse_exchange s (some u) e) ∙ missed)
+    go (Some u) e later =
+        let same : u ≡ w = same_Some u w (rw e at d) in
+        let missed = pulse_areas s (Some u) e ∙ ap (λ x. apply (effect_later s.areas (Some x)) s.areas) same in
+        ap (λ m. marks_at m v.port) (idle_quiet n (pulse s) (pulse_exchange s (Some u) e) ∙ missed)
         ∙ missed_shown s.areas fits w v found
-    go none e later =
-        let kept = pulse_areas s none e in
+    go None e later =
+        let kept = pulse_areas s None e in
         later (ap areas_fit kept ∙ fits) (rw e at d) (ap (λ m. sink_for m w) kept ∙ found)
 
 -- ageing leaves word 1
@@ -132,9 +133,9 @@ grown_shown n s p fits = ap (λ w. block_bits w.flags) ((grown_ages n s fits).po
 pub record MarksShown (s : World) : Type 0 where
   -- a slave frame is judged for an open sink: the blocks that the judgement calls wrong, 0 if it is sound
   pub answered : (a b : Hearing) (w : ℕ) (j : Judgement) (v : Standing) → heard_by s.controller a b ≡ Reply w j
-      → sink_for s.areas w ≡ some v → marks_at (step (hear a b) s).areas v.port ≡ marks_number (wrong_in j)
+      → sink_for s.areas w ≡ Some v → marks_at (step (hear a b) s).areas v.port ≡ marks_number (wrong_in j)
   -- the reply time of an open sink is reached within n quiet bit times: 0
-  pub late : (n w : ℕ) (v : Standing) → due_within n s ≡ some w → sink_for s.areas w ≡ some v
+  pub late : (n w : ℕ) (v : Standing) → due_within n s ≡ Some w → sink_for s.areas w ≡ Some v
       → marks_at (step (quiet n) s).areas v.port ≡ 0
   -- the host writes to the port: 0
   pub written : (a : ℕ) (ws : List ℕ) → entry s.areas a ≤ 255 → marks_at (step (write_port a ws) s).areas (entry s.areas a) ≡ 0

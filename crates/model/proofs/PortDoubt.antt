@@ -3,7 +3,7 @@
 use Prim.Native.Nat.{ℕ}
 use mathlib.Core.Bool.{cond, ◌&&◌}
 use mathlib.Core.List.{List, [], ◌∷◌, ◌++◌}
-use mathlib.Core.Option.{Option, none, some}
+use Rattle.std.specs.Prelude.{Option, None, Some}
 use lib.Dec.{eqb}
 use Rattle.model.specs.Ports.{address_of, Effect, untouched, fill, mark, opened, closed}
 use Rattle.model.specs.Calls.{Call, effect}
@@ -11,23 +11,23 @@ use Rattle.model.specs.Past.{Happening, hears, passes, sets, changes, happening,
 
 -- the number of the port that stands open
 abbrev pub port_number : Option Opening → Option ℕ
-port_number none = none
-port_number (some o) = some o.port
+port_number None = None
+port_number (Some o) = Some o.port
 
 -- the number of the port at an address, if there is one
 abbrev pub port_at_address : List Call → Option ℕ → Option ℕ
-port_at_address past none = none
-port_at_address past (some a) = port_number (opening_of past a)
+port_at_address past None = None
+port_at_address past (Some a) = port_number (opening_of past a)
 
 -- the number of an open sink with exactly the master word w
 abbrev pub sink_number : ℕ → Option Opening → Option ℕ
-sink_number w none = none
-sink_number w (some o) = cond (eqb o.word w && o.sink) (some o.port) none
+sink_number w None = None
+sink_number w (Some o) = cond (eqb o.word w && o.sink) (Some o.port) None
 
 -- the number of the open sink with this master word, if there is a word
 abbrev pub sink_open : List Call → Option ℕ → Option ℕ
-sink_open past none = none
-sink_open past (some w) = sink_number w (opening_of past (address_of w))
+sink_open past None = None
+sink_open past (Some w) = sink_number w (opening_of past (address_of w))
 
 -- the open sink whose master word is waited for
 unfoldable pub waiting_port : List Call → Option ℕ
@@ -35,16 +35,16 @@ waiting_port past = sink_open past (awaited past 0)
 
 -- what was waited for is waited for no more
 abbrev pub over : Option ℕ → Option ℕ → Option ℕ
-over none p = p
-over (some w) p = none
+over None p = p
+over (Some w) p = None
 
 -- the port that an effect concerns
 abbrev pub port_affected : Effect → Option ℕ
-port_affected untouched = none
-port_affected (fill p ws) = some p
-port_affected (mark p x) = some p
-port_affected (opened a p code sink i limit) = some p
-port_affected (closed a p) = some p
+port_affected untouched = None
+port_affected (fill p ws) = Some p
+port_affected (mark p x) = Some p
+port_affected (opened a p code sink i limit) = Some p
+port_affected (closed a p) = Some p
 
 -- the port whose status bits a call sets: that whose wait is over in quiet time, else the one that the call's effect concerns
 abbrev pub finished_as : List Call → Happening → Effect → Option ℕ
@@ -59,9 +59,9 @@ finished past c = finished_as past (happening c) (effect c (after past))
 
 -- the port whose status bits may differ, after port f finished an exchange
 abbrev pub settle : Option ℕ → Option ℕ → Option ℕ
-settle none o = o
-settle (some p) none = none
-settle (some p) (some q) = cond (eqb p q) none (some q)
+settle None o = o
+settle (Some p) None = None
+settle (Some p) (Some q) = cond (eqb p q) None (Some q)
 
 -- of the ports, at first o, that which is still in doubt after these calls
 unfoldable pub doubtful_port : List Call → Option ℕ → List Call → Option ℕ

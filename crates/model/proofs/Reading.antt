@@ -5,11 +5,11 @@ use mathlib.Core.Path.{◌≡◌, refl, sym, ◌∙◌, ap}
 use mathlib.Core.Logic.{◌↔◌}
 use mathlib.Core.Bool.{Bool, true, false, cond, true≢false, false≢true}
 use mathlib.Core.List.{List, [], ◌∷◌}
-use mathlib.Core.Option.{none, some}
+use Rattle.std.specs.Prelude.{None, Some}
 use native.Mathlib.Omega.{arith}
 use lib.Dec.{eqb, ltb}
 use borrow.Author.Tests.{le-ltb, eq-eqb, ne_eqb, eqb-true}
-use Rattle.model.specs.declared.Answer.TheVariants.{Never, Stale, Refused}
+use Rattle.model.specs.Answer.{Never, Stale, Refused}
 use Rattle.model.specs.declared.Words.{Words}
 use Rattle.model.specs.Layout.{Areas, entry, port_at, flags_of}
 use Rattle.model.specs.Ports.{Standing, standing_of, standing, valid_words, is_held, too_old, state_by, state_of}
@@ -27,13 +27,13 @@ no_words_lem true = refl
 no_words_lem false = refl
 
 -- the last of no words is none, and of none but these
-pub last_none : (l : List (List ℕ)) → (last_of l ≡ none) ↔ (l ≡ [])
+pub last_none : (l : List (List ℕ)) → (last_of l ≡ None) ↔ (l ≡ [])
 last_none [] = (λ e. refl, λ e. refl)
 last_none (ws ∷ l) =
     (λ e. let z : ◌≡◌ {A = ℕ} 0 1 = cc in absurd (omega arith), λ e. let z : ◌≡◌ {A = ℕ} 0 1 = cc in absurd (omega arith))
 
 -- asking refuses where no port stands, with 3
-pub asks_closed : (m : Areas) → Shape m → (a : ℕ) → a < 4096 → standing m a ≡ none → asked m a ≡ Refused 3
+pub asks_closed : (m : Areas) → Shape m → (a : ℕ) → a < 4096 → standing m a ≡ None → asked m a ≡ Refused 3
 unfolding asked port_refusal refusal
 asks_closed m shape a low e =
     let range : ltb 4095 a ≡ false = le-ltb 4095 a (omega arith) in
@@ -70,9 +70,9 @@ unfolding asked
 asked_number m a = answer_number_lem (port_refusal (read_port a) m) _
 
 -- never exactly if not ever filled
-never_empty : (w : Words) (ws : List ℕ) → (state_of w ≡ Never) ↔ (cond (flags_of w.flags).ever (some ws) none ≡ none)
+never_empty : (w : Words) (ws : List ℕ) → (state_of w ≡ Never) ↔ (cond (flags_of w.flags).ever (Some ws) None ≡ None)
 unfolding state_of
-never_empty w ws = by_tests (λ e h s. (state_by e h s ≡ Never) ↔ (cond e (some ws) none ≡ none)) go w
+never_empty w ws = by_tests (λ e h s. (state_by e h s ≡ Never) ↔ (cond e (Some ws) None ≡ None)) go w
   where
     filled : (h s : Bool) → state_by true h s ≡ Never → ⊥
     filled true true p = let z : ◌≡◌ {A = ℕ} 0 1 = cc in omega arith
@@ -80,15 +80,15 @@ never_empty w ws = by_tests (λ e h s. (state_by e h s ≡ Never) ↔ (cond e (s
     filled false true p = let z : ◌≡◌ {A = ℕ} 0 1 = cc in omega arith
     filled false false p = let z : ◌≡◌ {A = ℕ} 0 1 = cc in omega arith
 
-    go : (e h s : Bool) → (state_by e h s ≡ Never) ↔ (cond e (some ws) none ≡ none)
+    go : (e h s : Bool) → (state_by e h s ≡ Never) ↔ (cond e (Some ws) None ≡ None)
     go true h s = (λ p. absurd (filled h s p), λ p. let z : ◌≡◌ {A = ℕ} 0 1 = cc in absurd (omega arith))
     go false h s = (λ p. refl, λ p. refl)
 
-part_shown : (w : Words) (ws : List ℕ) → part_for (state_of w) ws ≡ shown_words (cond (flags_of w.flags).ever (some ws) none)
+part_shown : (w : Words) (ws : List ℕ) → part_for (state_of w) ws ≡ shown_words (cond (flags_of w.flags).ever (Some ws) None)
 unfolding state_of
-part_shown w ws = by_tests (λ e h s. part_for (state_by e h s) ws ≡ shown_words (cond e (some ws) none)) go w
+part_shown w ws = by_tests (λ e h s. part_for (state_by e h s) ws ≡ shown_words (cond e (Some ws) None)) go w
   where
-    go : (e h s : Bool) → part_for (state_by e h s) ws ≡ shown_words (cond e (some ws) none)
+    go : (e h s : Bool) → part_for (state_by e h s) ws ≡ shown_words (cond e (Some ws) None)
     go true true true = refl
     go true true false = refl
     go true false true = refl
@@ -103,7 +103,7 @@ stale_exactly true false true = (λ p. (refl, refl, refl), λ p. refl)
 stale_exactly true false false = (λ p. let z : ◌≡◌ {A = ℕ} 0 1 = cc in absurd (omega arith), λ p. absurd (false≢true p.2))
 stale_exactly false h s = (λ p. let z : ◌≡◌ {A = ℕ} 0 1 = cc in absurd (omega arith), λ p. absurd (false≢true p.0))
 
-module _ (m : Areas) (shape : Shape m) (a : ℕ) (v : Standing) (seen : standing m a ≡ some v) where
+module _ (m : Areas) (shape : Shape m) (a : ℕ) (v : Standing) (seen : standing m a ≡ Some v) where
   -- reading it is not refused
   pub readable : port_refusal (read_port a) m ≡ 0
   unfolding port_refusal
@@ -114,14 +114,14 @@ module _ (m : Areas) (shape : Shape m) (a : ℕ) (v : Standing) (seen : standing
       accepts (read_port a) (fresh_over m) (tables_in m shape, port_in_lem m shape a [] range there tt)
 
   -- the port is seen whole
-  pub whole : v.shows ≡ cond (flags_of (port_at m (entry m a)).flags).ever (some (valid_words m (entry m a))) none
+  pub whole : v.shows ≡ cond (flags_of (port_at m (entry m a)).flags).ever (Some (valid_words m (entry m a))) None
   unfolding standing_of
   whole =
       let at = standing_at_lem m a v seen in
       ap (λ (x : Standing). x.shows) (at.whole ∙ ap (standing_of m) at.port)
 
   -- asking answers never exactly where the port shows no words
-  pub asks_never : (asked m a ≡ Never) ↔ (v.shows ≡ none)
+  pub asks_never : (asked m a ≡ Never) ↔ (v.shows ≡ None)
   unfolding asked
   asks_never = rw (readable, whole) (never_empty (port_at m (entry m a)) (valid_words m (entry m a)))
 

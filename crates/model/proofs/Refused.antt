@@ -5,7 +5,7 @@ use mathlib.Core.Path.{◌≡◌, refl}
 use mathlib.Core.Logic.{◌⊎◌, inl, inr, ◌↔◌}
 use mathlib.Core.Bool.{Bool, true, false, cond}
 use mathlib.Core.List.{List, [], ◌∷◌}
-use mathlib.Core.Option.{none}
+use Rattle.std.specs.Prelude.{None}
 use native.Mathlib.Omega.{arith}
 use borrow.Author.Tests.{ne_eqb}
 use Rattle.model.specs.Event.{World, spoken}
@@ -107,7 +107,7 @@ refused_only c s h = go (tells (tests c s))
 
 -- A refusal returns its number and no reply, and leaves controller and areas unchanged.
 pub refusal_changes_nothing : (c : Call) (s : World) (n : ℕ) → First (tests c s) n
-    → outcome c s ≡ record { refusal = n; reply = spoken none; world = s }
+    → outcome c s ≡ record { refusal = n; reply = spoken None; world = s }
 unfolding outcome
 refusal_changes_nothing c s n f =
     let p = positive f in

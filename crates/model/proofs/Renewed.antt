@@ -4,7 +4,8 @@ use Prim.Native.Nat.{ℕ, ◌%◌}
 use mathlib.Core.Path.{◌≡◌, refl, sym, ◌∙◌, ap, subst}
 use mathlib.Core.Bool.{Bool, true, false, cond}
 use mathlib.Core.List.{List, ◌∷◌}
-use mathlib.Core.Option.{none, some, none-ne-some, some-injective}
+use Rattle.std.specs.Prelude.{None, Some}
+use Rattle.std.proofs.lemmas.Option.{none-some, same_Some}
 use lib.Dec.{eqb}
 use lib.ListN.{length}
 use borrow.Author.Tests.{eqb-true, eqb-false, eq-eqb, ne_eqb}
@@ -35,41 +36,41 @@ open_standing past a o = standing_with o (last_of (fillings past a o)) (length (
 -- what a host call is to the port that stands open at address a after it, by its opening o
 pub data Renewal (past : List Call) (c : Call) (a : ℕ) (o : Opening) : Type 0 where
   -- it leaves the port, which stood open before it
-  not_concerned : change_of (happening c) a ≡ keeps → opening_of past a ≡ some o → renews (effect c (after past)) o.port ≡ false → Renewal past c a o
+  not_concerned : change_of (happening c) a ≡ keeps → opening_of past a ≡ Some o → renews (effect c (after past)) o.port ≡ false → Renewal past c a o
   -- it opens it
   opened_anew : {x : Opening} → change_of (happening c) a ≡ opens x → renews (effect c (after past)) o.port ≡ true → Renewal past c a o
   -- it writes to it, and it is a source
-  written_to : {ws : List ℕ} → change_of (happening c) a ≡ writes ws → opening_of past a ≡ some o → o.sink ≡ false
+  written_to : {ws : List ℕ} → change_of (happening c) a ≡ writes ws → opening_of past a ≡ Some o → o.sink ≡ false
       → renews (effect c (after past)) o.port ≡ true → Renewal past c a o
 
 module _ (past : List Call) (h : ToldBy past (after past)) where
   abbrev M : Areas
   M = (after past).areas
 
-  shows : (a : ℕ) (o : Opening) → opening_of past a ≡ some o → standing M a ≡ some (open_standing past a o)
+  shows : (a : ℕ) (o : Opening) → opening_of past a ≡ Some o → standing M a ≡ Some (open_standing past a o)
   shows a o e = h.holds.stands a ∙ rw e
 
   -- the port that stands at another address
-  elsewhere : (a b : ℕ) (o : Opening) → opening_of past a ≡ some o → eqb b a ≡ false → standing M b ≡ some (standing_of M (entry M b))
+  elsewhere : (a b : ℕ) (o : Opening) → opening_of past a ≡ Some o → eqb b a ≡ false → standing M b ≡ Some (standing_of M (entry M b))
       → eqb o.port (entry M b) ≡ false
   unfolding standing_of
   elsewhere a b o e ne there =
       ne_eqb _ _ (λ p. eqb-false b a ne (sym (distinct M a b (open_standing past a o) (standing_of M (entry M b)) (shows a o e) there p)))
 
   -- the port that stands at this one
-  this_port : (a b : ℕ) (o : Opening) → opening_of past a ≡ some o → eqb b a ≡ true → standing M b ≡ some (standing_of M (entry M b))
+  this_port : (a b : ℕ) (o : Opening) → opening_of past a ≡ Some o → eqb b a ≡ true → standing M b ≡ Some (standing_of M (entry M b))
       → open_standing past a o ≡ standing_of M (entry M b)
   this_port a b o e same there =
-      some-injective _ _ (sym (shows a o e) ∙ ap (standing M) (sym (eqb-true b a same)) ∙ there)
+      same_Some _ _ (sym (shows a o e) ∙ ap (standing M) (sym (eqb-true b a same)) ∙ there)
 
   -- a free port stands at no address
-  free_elsewhere : (a p : ℕ) (o : Opening) → opening_of past a ≡ some o → (port_at M p).flags ≡ 0 → eqb o.port p ≡ false
+  free_elsewhere : (a p : ℕ) (o : Opening) → opening_of past a ≡ Some o → (port_at M p).flags ≡ 0 → eqb o.port p ≡ false
   free_elsewhere a p o e unused =
       ne_eqb _ _ (λ i. formed_used a (port_at M p)
       (subst (λ (q : ℕ). well_formed a (port_at M q) ≡ true) i (standing_at_lem M a (open_standing past a o) (shows a o e)).formed) unused)
 
   -- An accepted host call opens the port of an address anew, writes to it, or leaves it.
-  pub host_renews : (c : Call) → Hosts c → refusal c (after past) ≡ 0 → (a : ℕ) (o : Opening) → opening_of (c ∷ past) a ≡ some o
+  pub host_renews : (c : Call) → Hosts c → refusal c (after past) ≡ 0 → (a : ℕ) (o : Opening) → opening_of (c ∷ past) a ≡ Some o
       → Renewal past c a o
   unfolding opening_of effect standing_of
   host_renews (hear x y) host r a o e = absurd host
@@ -78,29 +79,29 @@ module _ (past : List Call) (h : ToldBy past (after past)) where
     where
       go : (k : Bool) → eqb b a ≡ k → Valid M (opened b p code sink i limit) → Renewal past (open_port b p code sink i limit) a o
       go true k ok =
-          let same : some (an_opening b p code sink i limit) ≡ some o = rw k at e in
+          let same : Some (an_opening b p code sink i limit) ≡ Some o = rw k at e in
           opened_anew {x = an_opening b p code sink i limit} (rw k)
-          (eq-eqb o.port p (sym (ap (λ (x : Opening). x.port) (some-injective _ _ same))))
+          (eq-eqb o.port p (sym (ap (λ (x : Opening). x.port) (same_Some _ _ same))))
       go false k (opening ha pos hp hc hi absent unused) =
-          let before : opening_of past a ≡ some o = rw k at e in
+          let before : opening_of past a ≡ Some o = rw k at e in
           not_concerned (rw k) before (free_elsewhere a p o before unused)
   host_renews (close_port b) host r a o e = go (eqb b a) refl
     where
       go : (k : Bool) → eqb b a ≡ k → Renewal past (close_port b) a o
-      go true k = let gone : none ≡ some o = rw k at e in absurd (none-ne-some o gone)
+      go true k = let gone : None ≡ Some o = rw k at e in absurd (none-some o gone)
       go false k =
-          let before : opening_of past a ≡ some o = rw k at e in
+          let before : opening_of past a ≡ Some o = rw k at e in
           not_concerned (rw k) before (elsewhere a b o before k (found_close b (after past) r))
   host_renews (write_port b ws) host r a o e = go (eqb b a) refl
     where
       go : (k : Bool) → eqb b a ≡ k → Renewal past (write_port b ws) a o
       go true k =
-          let before : opening_of past a ≡ some o = rw k at e in
+          let before : opening_of past a ≡ Some o = rw k at e in
           let here = this_port a b o before k (found_write b ws (after past) r) in
           written_to {ws = ws} (rw k) before (ap (λ (v : Standing). v.sink) here ∙ write_source b ws (after past) r)
           (eq-eqb o.port (entry M b) (ap (λ (v : Standing). v.port) here))
       go false k =
-          let before : opening_of past a ≡ some o = rw k at e in
+          let before : opening_of past a ≡ Some o = rw k at e in
           not_concerned (rw k) before (elsewhere a b o before k (found_write b ws (after past) r))
   host_renews (read_port b) host r a o e = not_concerned refl e refl
   host_renews (setting t) host r a o e = not_concerned refl e refl
@@ -108,7 +109,7 @@ module _ (past : List Call) (h : ToldBy past (after past)) where
 -- What is kept for that port: `first` where the call opens or fills it, else what it was. So the past tells it after the call too, if it told
 -- it before; of a source there is nothing but `first` to tell.
 pub renewed : {A : Type 0} (first : A) (cap : A → A) → cap first ≡ first → (past : List Call) (c : Call) (a : ℕ) (o : Opening) → Renewal past c a o
-    → (old since : A) → (opening_of past a ≡ some o → old ≡ cond o.sink (cap since) first)
+    → (old since : A) → (opening_of past a ≡ Some o → old ≡ cond o.sink (cap since) first)
     → cond (renews (effect c (after past)) o.port) first old ≡ cond o.sink (cap (anew first (change_of (happening c) a) since)) first
 renewed first cap capped past c a o (not_concerned keep before none_set) old since told = rw (keep, none_set) (told before)
 renewed first cap capped past c a o (opened_anew opens-it set) old since told = rw (opens-it, set) (go o.sink)

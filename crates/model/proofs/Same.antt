@@ -3,7 +3,7 @@
 use Prim.Native.Nat.{ℕ, zero, suc}
 use mathlib.Core.Path.{◌≡◌, refl, sym, ◌∙◌, ap, ap₂, subst}
 use mathlib.Core.Bool.{Bool, true, false, cond}
-use mathlib.Core.Option.{Option, none, some}
+use Rattle.std.specs.Prelude.{Option, None, Some}
 use lib.ListN.{length}
 use Rattle.frames.specs.declared.Hearing.{Hearing}
 use Rattle.model.specs.declared.Exchange.{Exchange}
@@ -70,16 +70,16 @@ module _ (m n : Areas) (k : Alike m n) where
 
   -- a reply time that is reached has the same effect
   pub same_missed : (o : Option ℕ) → effect_later m o ≡ effect_later n o
-  same_missed none = refl
-  same_missed (some w) = rw (same_port w)
+  same_missed None = refl
+  same_missed (Some w) = rw (same_port w)
 
   -- the same entries
   pub same_entry : (a : ℕ) → entry m a ≡ entry n a
   same_entry a = go (standing m a) refl
     where
       go : (o : Option Standing) → standing m a ≡ o → entry m a ≡ entry n a
-      go none e = none_entry m a k.shape e ∙ sym (none_entry n a k.shape' (sym (k.stands a) ∙ e))
-      go (some v) e =
+      go None e = none_entry m a k.shape e ∙ sym (none_entry n a k.shape' (sym (k.stands a) ∙ e))
+      go (Some v) e =
           sym (standing_at_lem m a v e).port ∙ (standing_at_lem n a v (sym (k.stands a) ∙ e)).port
 
   -- one effect on both
@@ -254,8 +254,8 @@ times_set (group1 g) c d e = e
 -- a setting leaves the same device where it was the same
 pub device_set : (t : Setting) (c d : Controller) → c.device ≡ d.device → (tell t c).device ≡ (tell t d).device
 unfolding tell
-device_set (address a) c d e = ap (λ (x : Device). device a x.set x.status) e
-device_set (status w) c d e = ap (λ (x : Device). device x.address true w) e
+device_set (address a) c d e = ap (λ (x : Device). device a x.status) e
+device_set (status w) c d e = ap (λ (x : Device). device x.address (Some w)) e
 device_set (reply_time n) c d e = e
 device_set (slm b) c d e = e
 device_set (ls b) c d e = e

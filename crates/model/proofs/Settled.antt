@@ -6,13 +6,13 @@ use mathlib.Core.Path.{◌≡◌, refl, sym, ◌∙◌, ap, ap₂}
 use mathlib.Core.Logic.{◌⊎◌, inl, inr}
 use mathlib.Core.Bool.{Bool, true, false, cond, true≢false}
 use mathlib.Core.List.{List, [], ◌∷◌, ◌++◌}
-use mathlib.Core.Option.{Option, none, some}
+use Rattle.std.specs.Prelude.{Option, None, Some}
 use native.Mathlib.Omega.{arith}
 use lib.Dec.{eqb}
 use borrow.Author.Tests.{eqb-true, eq-eqb}
 use Rattle.frames.specs.declared.Hearing.{Hearing}
-use Rattle.model.specs.declared.Answer.{Answer}
-use Rattle.model.specs.declared.Answer.TheVariants.{Refused}
+use Rattle.model.specs.Answer.{Answer}
+use Rattle.model.specs.Answer.{Refused}
 use Rattle.model.specs.declared.Flags.{Flags}
 use Rattle.model.specs.declared.Words.{Words}
 use Rattle.model.specs.Layout.{Areas, entry, port_at, flags_of}
@@ -39,7 +39,7 @@ use Rattle.model.proofs.Damage.{same_reply}
 
 -- ---- no port in doubt
 
-areas_but_ages : (m n : Areas) → Alike n m → ButPort none m n → ButAges m n
+areas_but_ages : (m n : Areas) → Alike n m → ButPort None m n → ButAges m n
 areas_but_ages m n k b =
     record {
       index = b.only.index;
@@ -77,7 +77,7 @@ asked_aside m a = go (eqb (port_refusal (read_port a) m) 0)
     go true = state_aside (port_at m (entry m a))
     go false = refl
 
-asked_but : (m n : Areas) → Alike n m → (o : Option ℕ) → ButPort o m n → (a : ℕ) → (o ≡ some (entry m a) → ⊥)
+asked_but : (m n : Areas) → Alike n m → (o : Option ℕ) → ButPort o m n → (a : ℕ) → (o ≡ Some (entry m a) → ⊥)
     → stale_aside (asked n a) ≡ stale_aside (asked m a)
 unfolding port_refusal
 asked_but m n k o b a x =
@@ -108,10 +108,10 @@ fetched_alike : (m n : Areas) → Alike n m → (a : ℕ) → fetched n a ≡ fe
 fetched_alike m n k a = go (standing m a) refl
   where
     go : (o : Option Standing) → standing m a ≡ o → fetched n a ≡ fetched m a
-    go none e =
+    go None e =
         let z = none_entry m a k.shape' e in
         closed_empty n a (same_entry n m k a ∙ z) ∙ sym (closed_empty m a z)
-    go (some v) e = fetches n k.shape a v (k.stands a ∙ e) ∙ sym (fetches m k.shape' a v e)
+    go (Some v) e = fetches n k.shape a v (k.stands a ∙ e) ∙ sym (fetches m k.shape' a v e)
 
 -- ---- after a stretch of damage, any host calls, a sound master frame, and any calls heard alike
 
@@ -133,12 +133,12 @@ module _ (before stretch calls : List Call) (d : Damage before stretch) (f : Fol
   both = rw (waiting_address_lem before calls shorter) (joined before stretch d calls f acc).1
 
   -- Once the port that waited has finished an exchange, or if none waited, the four areas are equal word for word, ages aside.
-  pub areas_same : doubt ≡ none → ButAges clean.areas damaged.areas
+  pub areas_same : doubt ≡ None → ButAges clean.areas damaged.areas
   areas_same e =
       areas_but_ages clean.areas damaged.areas both.same.areas (rw e at both.but)
 
   -- Asking answers the same, good against stale aside, at every address but the one in doubt: good against held there alone.
-  pub asked_same : (a : ℕ) → (doubt ≡ some a → ⊥) → stale_aside (asked damaged.areas a) ≡ stale_aside (asked clean.areas a)
+  pub asked_same : (a : ℕ) → (doubt ≡ Some a → ⊥) → stale_aside (asked damaged.areas a) ≡ stale_aside (asked clean.areas a)
   asked_same a n =
       asked_but clean.areas damaged.areas both.same.areas _ both.but a
       (λ e. n (here_alone (calls ++ before) (past_told (calls ++ before) shorter) doubt a e))
@@ -189,32 +189,32 @@ accepted_back before stretch d long calls (then {c} {calls = later} al f) short 
 -- ---- the address in doubt is the one that waited, and a finished exchange there ends the doubt for good
 
 -- The address in doubt after any calls is the one that was at first, or there is none.
-pub one_doubt : (past : List Call) (o : Option ℕ) (calls : List Call) → (doubtful past o calls ≡ o) ⊎ (doubtful past o calls ≡ none)
+pub one_doubt : (past : List Call) (o : Option ℕ) (calls : List Call) → (doubtful past o calls ≡ o) ⊎ (doubtful past o calls ≡ None)
 unfolding doubtful
 one_doubt past o [] = inl refl
 one_doubt past o (c ∷ calls) = go (doubtful past o calls) (one_doubt past o calls)
   where
-    go : (x : Option ℕ) → (x ≡ o) ⊎ (x ≡ none)
-        → (remains (finishes (calls ++ past) c) x ≡ o) ⊎ (remains (finishes (calls ++ past) c) x ≡ none)
-    go none r = inr refl
-    go (some a) r = by (finishes (calls ++ past) c a)
+    go : (x : Option ℕ) → (x ≡ o) ⊎ (x ≡ None)
+        → (remains (finishes (calls ++ past) c) x ≡ o) ⊎ (remains (finishes (calls ++ past) c) x ≡ None)
+    go None r = inr refl
+    go (Some a) r = by (finishes (calls ++ past) c a)
       where
-        by : (b : Bool) → (cond b none (some a) ≡ o) ⊎ (cond b none (some a) ≡ none)
+        by : (b : Bool) → (cond b None (Some a) ≡ o) ⊎ (cond b None (Some a) ≡ None)
         by true = inr refl
         by false = r
 
-no_more : (past : List Call) (o : Option ℕ) (later calls : List Call) → doubtful past o calls ≡ none → doubtful past o (later ++ calls) ≡ none
+no_more : (past : List Call) (o : Option ℕ) (later calls : List Call) → doubtful past o calls ≡ None → doubtful past o (later ++ calls) ≡ None
 unfolding doubtful
 no_more past o [] calls e = e
 no_more past o (c ∷ later) calls e = rw (no_more past o later calls e)
 
 -- After a call that finishes the exchange at that address none is in doubt, whatever calls follow.
 pub doubt_ends : (past : List Call) (a : ℕ) (later calls : List Call) (c : Call) → finishes (calls ++ past) c a ≡ true
-    → doubtful past (some a) (later ++ (c ∷ calls)) ≡ none
+    → doubtful past (Some a) (later ++ (c ∷ calls)) ≡ None
 unfolding doubtful
-doubt_ends past a later calls c e = no_more past (some a) later (c ∷ calls) (go (one_doubt past (some a) calls))
+doubt_ends past a later calls c e = no_more past (Some a) later (c ∷ calls) (go (one_doubt past (Some a) calls))
   where
-    go : (doubtful past (some a) calls ≡ some a) ⊎ (doubtful past (some a) calls ≡ none)
-        → remains (finishes (calls ++ past) c) (doubtful past (some a) calls) ≡ none
+    go : (doubtful past (Some a) calls ≡ Some a) ⊎ (doubtful past (Some a) calls ≡ None)
+        → remains (finishes (calls ++ past) c) (doubtful past (Some a) calls) ≡ None
     go (inl i) = rw (i, e)
     go (inr i) = rw i

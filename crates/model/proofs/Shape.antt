@@ -6,7 +6,7 @@ use mathlib.Core.Path.{◌≡◌}
 use mathlib.Core.Logic.{◌⊎◌}
 use mathlib.Core.Bool.{Bool, true, cond}
 use mathlib.Core.List.{List}
-use mathlib.Core.Option.{Option, none, some}
+use Rattle.std.specs.Prelude.{Option, None, Some}
 use lib.Dec.{eqb}
 use lib.ListN.{length}
 use Rattle.model.specs.declared.Faults.{Faults}
@@ -30,7 +30,7 @@ pub record Shape (m : Areas) : Type 0 where
 -- port p stands open at address a, with the master word w
 pub record At (m : Areas) (a p w : ℕ) : Type 0 where
   pub seen : Standing
-  pub there : standing m a ≡ some seen
+  pub there : standing m a ≡ Some seen
   pub port : seen.port ≡ p
   pub word : seen.word ≡ w
 
@@ -53,7 +53,7 @@ refill ws v =
       word = v.word;
       sink = v.sink;
       interrupt = v.interrupt;
-      shows = some ws;
+      shows = Some ws;
       fills = (v.fills + 1) % 65536;
       limit = v.limit;
     }
@@ -61,12 +61,12 @@ refill ws v =
 -- a port just opened: it shows no words, and has no fills
 abbrev pub just_opened : ℕ → ℕ → ℕ → Bool → ℕ → ℕ → Standing
 just_opened a p code sink i limit =
-    record { port = p; word = master_word code a; sink = sink; interrupt = i; shows = none; fills = 0; limit = limit }
+    record { port = p; word = master_word code a; sink = sink; interrupt = i; shows = None; fills = 0; limit = limit }
 
 -- what stands at an address, after words filled port p: it shows them if it is this port
 abbrev pub refill_if : ℕ → List ℕ → Option Standing → Option Standing
-refill_if p ws none = none
-refill_if p ws (some v) = some (cond (eqb v.port p) (refill ws v) v)
+refill_if p ws None = None
+refill_if p ws (Some v) = Some (cond (eqb v.port p) (refill ws v) v)
 
 -- what an effect does to what address a shows: a fill is seen at the address of its port alone, marks are not seen, opening and
 -- closing at their own address
@@ -74,5 +74,5 @@ abbrev pub standing_after : Effect → ℕ → Option Standing → Option Standi
 standing_after untouched a v = v
 standing_after (fill p ws) a v = refill_if p ws v
 standing_after (mark p x) a v = v
-standing_after (opened b p code sink i limit) a v = cond (eqb b a) (some (just_opened b p code sink i limit)) v
-standing_after (closed b p) a v = cond (eqb b a) none v
+standing_after (opened b p code sink i limit) a v = cond (eqb b a) (Some (just_opened b p code sink i limit)) v
+standing_after (closed b p) a v = cond (eqb b a) None v

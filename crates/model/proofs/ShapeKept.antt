@@ -5,7 +5,7 @@ use mathlib.Core.Path.{◌≡◌, refl, sym, ◌∙◌, ap}
 use mathlib.Core.Logic.{◌≢◌, inl, inr, dite}
 use mathlib.Core.Bool.{Bool, true, false, cond, not}
 use mathlib.Core.List.{List}
-use mathlib.Core.Option.{Option, none, some}
+use Rattle.std.specs.Prelude.{Option, None, Some}
 use native.Mathlib.Decide.{ℕ_discrete}
 use native.Mathlib.Omega.{arith}
 use borrow.Author.Tests.{eq-eqb, ne_eqb}
@@ -48,7 +48,7 @@ shape_cleared =
     }
 
 -- and nothing stands at any of their addresses
-pub standing_cleared : (a : ℕ) → standing cleared_areas a ≡ none
+pub standing_cleared : (a : ℕ) → standing cleared_areas a ≡ None
 standing_cleared a = standing_none cleared_areas a (cleared_entry a)
 
 -- ---- a port that stands open
@@ -60,7 +60,7 @@ pub record Here (m : Areas) (a p w : ℕ) : Type 0 where
   pub small : p ≤ 255
   pub formed : well_formed a (port_at m p) ≡ true
   pub master : (port_at m p).master ≡ w
-  pub standing : standing m a ≡ some (standing_of m p)
+  pub standing : standing m a ≡ Some (standing_of m p)
 
 -- all this is known where a port stands open
 pub at_here : {m : Areas} {a p w : ℕ} → At m a p w → Here m a p w
@@ -74,7 +74,7 @@ at_here {m} {a} {p} {w} h =
       small = rw h.port at s.small;
       formed = rw h.port at s.formed;
       master = ap (λ (v : Standing). v.word) (sym whole) ∙ h.word;
-      standing = h.there ∙ ap some whole;
+      standing = h.there ∙ ap Some whole;
     }
 
 -- ---- the port that an effect concerns is its address's own: it stands open there, or it and the address are free
@@ -97,12 +97,12 @@ module _ {m : Areas} (s : Shape m) (a p code : ℕ) (sink : Bool) (i limit : ℕ
       changed s (own_free a p hp free unused) (entry_set m.index a p (omega (arith, (lengths m s.fits).index)))
       (part_kept p m.page0) (part_kept p m.page1) (inr (refl, open_formed a code sink i limit ha hc hi))
 
-  standing_open : (b : ℕ) → standing (apply (opened a p code sink i limit) m) b ≡ cond (eqb a b) (some (just_opened a p code sink i limit)) (standing m b)
+  standing_open : (b : ℕ) → standing (apply (opened a p code sink i limit) m) b ≡ cond (eqb a b) (Some (just_opened a p code sink i limit)) (standing m b)
   unfolding standing_of open_words
   standing_open b =
       let fresh : standing_of (apply (opened a p code sink i limit) m) p ≡ just_opened a p code sink i limit =
       rw (open_change.words_here, flags_of_word (open_flags sink)) in
-      standing_change open_change s (standing_here open_change pos refl (open_formed a code sink i limit ha hc hi) ∙ ap some fresh) b
+      standing_change open_change s (standing_here open_change pos refl (open_formed a code sink i limit ha hc hi) ∙ ap Some fresh) b
 
 module _ {m : Areas} {a p w : ℕ} (s : Shape m) (h : Here m a p w) where
   close_change : Changed m (apply (closed a p) m) a p 0 no_words
@@ -111,7 +111,7 @@ module _ {m : Areas} {a p w : ℕ} (s : Shape m) (h : Here m a p w) where
       let low : a < length m.index = omega (arith, (lengths m s.fits).index, (formed a (port_at m p) h.formed).address) in
       changed s (own_here h) (entry_set m.index a 0 low) (part_kept p m.page0) (part_kept p m.page1) (inl (refl, refl))
 
-  standing_close : (b : ℕ) → standing (apply (closed a p) m) b ≡ cond (eqb a b) none (standing m b)
+  standing_close : (b : ℕ) → standing (apply (closed a p) m) b ≡ cond (eqb a b) None (standing m b)
   standing_close b = standing_change close_change s (standing_none (apply (closed a p) m) a close_change.index.here) b
 
   mark_change : (x : Faults) → Changed m (apply (mark p x) m) a p p (marked_words (port_at m p) x)
@@ -163,8 +163,8 @@ module _ {m : Areas} {a p w : ℕ} (s : Shape m) (h : Here m a p w) where
   unfilled ws b ne = go (standing m b) refl
     where
       go : (o : Option Standing) → standing m b ≡ o → refill_if p ws o ≡ o
-      go none e = refl
-      go (some v) e = rw (ne_eqb v.port p (λ same. ne ((own_here h).alone b (rw same at (standing_at_lem m b v e).formed))))
+      go None e = refl
+      go (Some v) e = rw (ne_eqb v.port p (λ same. ne ((own_here h).alone b (rw same at (standing_at_lem m b v e).formed))))
 
   standing_fill : (ws : List ℕ) → length ws ≡ size_of (code_of w) → (b : ℕ) → standing (apply (fill p ws) m) b ≡ refill_if p ws (standing m b)
   unfolding standing_of

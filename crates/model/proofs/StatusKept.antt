@@ -4,7 +4,8 @@ use Prim.Native.Nat.{ℕ, zero, suc, ◌+◌, ◌≤◌, ◌<◌}
 use mathlib.Core.Path.{◌≡◌, refl, sym, ◌∙◌, ap}
 use mathlib.Core.Bool.{Bool, true, false, cond, not, ◌&&◌, false≢true, and-true, and-false, and-not_self}
 use mathlib.Core.List.{List, [], ◌∷◌}
-use mathlib.Core.Option.{Option, none, some, none-ne-some}
+use Rattle.std.specs.Prelude.{Option, None, Some}
+use Rattle.std.proofs.lemmas.Option.{none-some}
 use native.Mathlib.Omega.{arith}
 use lib.Dec.{eqb, leb, ltb}
 use lib.ListN.{length}
@@ -82,7 +83,7 @@ module _ (m : Areas) (fits : areas_fit m ≡ true) where
 -- ---- a bus event
 
 -- a slave frame is judged for the sink whose word is waited for; no other frame concerns the status bits of any port
-heard_faults : (m : Areas) (h : Hearing) (k : Kind) (x : Exchange) (t : Times) → Live x t → (a : ℕ) (v : Standing) → standing m a ≡ some v
+heard_faults : (m : Areas) (h : Hearing) (k : Kind) (x : Exchange) (t : Times) → Live x t → (a : ℕ) (v : Standing) → standing m a ≡ Some v
     → (f : Faults)
     → faults_after (effect_of m (as_heard k x h) h) v.port f
     ≡ cond (v.sink && (is_slave k && is_word (wait_now x t 0) v.word)) (faults_judged (judged_slave (code_of v.word) h) h) f
@@ -105,8 +106,8 @@ heard_faults m h SlaveFrame (Waiting w) t l a v e f = rw (waits_now w t l) (go (
     judged j ej true false eb = refl
     judged j ej false b eb = refl
 
-    found : (u : Standing) → sink_for m w ≡ some u → (j : Judgement) → judged_slave (code_of w) h ≡ j
-        → faults_after (taken (some u) j h) v.port f
+    found : (u : Standing) → sink_for m w ≡ Some u → (j : Judgement) → judged_slave (code_of w) h ≡ j
+        → faults_after (taken (Some u) j h) v.port f
         ≡ cond (v.sink && eqb w v.word) (faults_judged (judged_slave (code_of v.word) h) h) f
     found u eu Sound ej = rw (found_port m w u eu a v e) (judged Sound ej v.sink (eqb w v.word) refl)
     found u eu (Bad wrong) ej = rw (found_port m w u eu a v e) (judged (Bad wrong) ej v.sink (eqb w v.word) refl)
@@ -114,8 +115,8 @@ heard_faults m h SlaveFrame (Waiting w) t l a v e f = rw (waits_now w t l) (go (
     go : (o : Option Standing) → sink_for m w ≡ o
         → faults_after (taken o (judged_slave (code_of w) h) h) v.port f
         ≡ cond (v.sink && eqb w v.word) (faults_judged (judged_slave (code_of v.word) h) h) f
-    go none eo = rw (none_found m w eo a v e)
-    go (some u) eo = found u eo (judged_slave (code_of w) h) refl
+    go None eo = rw (none_found m w eo a v e)
+    go (Some u) eo = found u eo (judged_slave (code_of w) h) refl
 
 -- ---- quiet time
 
@@ -124,7 +125,7 @@ abbrev ends_between : (ℕ → Option ℕ) → ℕ → ℕ → ℕ → Bool
 ends_between W w q r = is_word (W q) w && not (is_word (W r) w)
 
 -- the rules of a bit time: a sink whose wait ends is told that the reply is missing
-late_faults : (m : Areas) (x : Exchange) (t : Times) → Live x t → t.adopted ≤ 128 → (a : ℕ) (v : Standing) → standing m a ≡ some v → (f : Faults)
+late_faults : (m : Areas) (x : Exchange) (t : Times) → Live x t → t.adopted ≤ 128 → (a : ℕ) (v : Standing) → standing m a ≡ Some v → (f : Faults)
     → faults_after (effect_later m (expired x t)) v.port f ≡ cond (v.sink && ends_between (wait_now x t) v.word 0 1) reply_missing f
 late_faults m Idle t l short a v e f = rw (and-false v.sink)
 late_faults m Done t l short a v e f = rw (and-false v.sink)
@@ -132,15 +133,15 @@ late_faults m (Waiting w) t l short a v e f =
     rw (waits_now w t l, ← (waits_later (Waiting w) t l short 0)) (go (leb t.adopted (since_later t)) refl)
   where
     go : (b : Bool) → leb t.adopted (since_later t) ≡ b
-        → faults_after (effect_later m (cond b (some w) none)) v.port f
+        → faults_after (effect_later m (cond b (Some w) None)) v.port f
         ≡ cond (v.sink
-        && (eqb w v.word && not (is_word (wait_now (exchange_later (Waiting w) (cond b (some w) none)) (times_later t) 0) v.word))) reply_missing f
+        && (eqb w v.word && not (is_word (wait_now (exchange_later (Waiting w) (cond b (Some w) None)) (times_later t) 0) v.word))) reply_missing f
     go true late = rw (and-true (eqb w v.word)) (by (sink_for m w) refl)
       where
         by : (o : Option Standing) → sink_for m w ≡ o
             → faults_after (missed o) v.port f ≡ cond (v.sink && eqb w v.word) reply_missing f
-        by none eo = rw (none_found m w eo a v e)
-        by (some u) eo = rw (found_port m w u eo a v e)
+        by None eo = rw (none_found m w eo a v e)
+        by (Some u) eo = rw (found_port m w u eo a v e)
     go false late = rw (waits_now w (times_later t) (leb-false _ _ late), and-not_self (eqb w v.word), and-false v.sink)
 
 -- what is waited for after more bit times is waited for before them
@@ -149,7 +150,7 @@ sooner Idle t n q w e = e
 sooner Done t n q w e = e
 sooner (Waiting v) t n q w e = go (ltb (t.since + (n + q)) t.adopted) refl e
   where
-    go : (b : Bool) → ltb (t.since + (n + q)) t.adopted ≡ b → is_word (cond b (some v) none) w ≡ true
+    go : (b : Bool) → ltb (t.since + (n + q)) t.adopted ≡ b → is_word (cond b (Some v) None) w ≡ true
         → is_word (wait_now (Waiting v) t q) w ≡ true
     go true eb ew =
         let l : t.since + (n + q) < t.adopted = ltb-true _ _ eb in
@@ -168,7 +169,7 @@ in_turn true false false true p q f = absurd (false≢true (q refl))
 in_turn true false false false p q f = refl
 
 -- the rules of n bit times
-pulses_faults : (n : ℕ) (W : ℕ → Option ℕ) (S : ℕ → Option Standing) (s : World) → HoldsAt W S s → (a : ℕ) (v : Standing) → S a ≡ some v
+pulses_faults : (n : ℕ) (W : ℕ → Option ℕ) (S : ℕ → Option Standing) (s : World) → HoldsAt W S s → (a : ℕ) (v : Standing) → S a ≡ Some v
     → faults_at (pulses n s).areas v.port ≡ cond (v.sink && ends_between W v.word 0 n) reply_missing (faults_at s.areas v.port)
 unfolding pulses pulse pulse_effect
 pulses_faults zero W S s h a v e = rw (and-not_self (is_word (W 0) v.word), and-false v.sink)
@@ -193,7 +194,7 @@ pulses_faults (suc n) W S s h a v e =
 -- ---- the invariant: the status bits of every open port are what the past tells
 
 abbrev pub FaultsTold : List Call → Areas → Type 0
-FaultsTold past m = (a : ℕ) (o : Opening) → opening_of past a ≡ some o → faults_at m o.port ≡ faults_told past a o
+FaultsTold past m = (a : ℕ) (o : Opening) → opening_of past a ≡ Some o → faults_at m o.port ≡ faults_told past a o
 
 -- a sink's go by its word, and a source has none
 sink_told : (s b : Bool) (x f old : Faults) → old ≡ cond s f no_faults → cond (s && b) x old ≡ cond s (cond b x f) no_faults
@@ -263,5 +264,5 @@ step_faults past c (host hosts) ty r h told = host_faults past h told c hosts r
 -- After every past of accepted calls the status bits of every open port are what the past tells.
 pub past_faults : (past : List Call) → Accepted past → FaultsTold past (after past).areas
 unfolding after opening_of
-past_faults [] acc = λ a o e. absurd (none-ne-some o e)
+past_faults [] acc = λ a o e. absurd (none-some o e)
 past_faults (c ∷ past) acc = step_faults past c (sort c) acc.0 acc.1 (past_told past acc.2) (past_faults past acc.2)

@@ -3,8 +3,8 @@
 use Prim.Native.Nat.{ℕ, suc, ◌+◌, ◌-◌, ◌*◌, ◌/◌, ◌%◌, ◌^◌}
 use mathlib.Core.Path.{◌≡◌, refl, sym, ◌∙◌, ap}
 use mathlib.Core.Bool.{Bool, true, false, cond, not, ◌&&◌, ◌||◌}
-use mathlib.Core.List.{List, [], ◌∷◌}
-use mathlib.Core.Option.{Option, none, some}
+use mathlib.Core.List.{List}
+use Rattle.std.specs.Prelude.{Option, None, Some, option_map}
 use native.Mathlib.Nat.{mod-lt, add-mul, mul_assoc, pow-succ'}
 use native.Mathlib.Numerals.{add-one}
 use native.Mathlib.Omega.{arith}
@@ -22,7 +22,7 @@ use Rattle.model.specs.Ports.{code_of}
 use Rattle.model.specs.Lines.{lines, with_rld, unless_slm, rule1, rule4, is_frame, is_poor, before_rule3, laa_bit, rld_bit, with_bit, status_with}
 use Rattle.model.specs.Lines.{LineBits}
 use Rattle.model.specs.Past.{asks_others}
-use Rattle.model.specs.Event.{source_for, polls_us, device_with, own_words, if_expected, answer_to, awaits, exchange_for}
+use Rattle.model.specs.Event.{source_for, polls_us, device_with, own_words, status_words, if_expected, answer_to, awaits, exchange_for}
 
 -- ---- one bit of a word replaced
 
@@ -123,36 +123,37 @@ poll_finds l t o e = ap (λ (k : Kind). rule4 (is_frame k && is_poor o) l) e ∙
 
 module _ (l : Lines) (d : Device) (m : Areas) (w : ℕ) where
   -- whatever asks of our answer only whether there is one
-  answer_unmoved : {A : Type 0} (f : Option (List ℕ) → A) → ((u v : List ℕ) → f (some u) ≡ f (some v))
+  answer_unmoved : {A : Type 0} (f : Option (List ℕ) → A) → ((u v : List ℕ) → f (Some u) ≡ f (Some v))
       → f (answer_to (device_with l d) m w) ≡ f (answer_to d m w)
   unfolding answer_to
   answer_unmoved f same = go (expected_of (code_of w)) (source_for m w)
     where
       go : (x : Option ℕ) (o : Option (List ℕ)) → f (if_expected x (own_words (device_with l d) w o)) ≡ f (if_expected x (own_words d w o))
-      go none o = refl
-      go (some n) (some ws) = refl
-      go (some n) none = by (polls_us d w && d.set)
+      go None o = refl
+      go (Some n) (Some ws) = refl
+      go (Some n) None = by (polls_us d w) d.status
         where
-          by : (b : Bool) → f (cond b (some (status_with l d.status ∷ [])) none) ≡ f (cond b (some (d.status ∷ [])) none)
-          by true = same _ _
-          by false = refl
+          by : (b : Bool) (o : Option ℕ) → f (cond b (status_words (option_map (status_with l) o)) None) ≡ f (cond b (status_words o) None)
+          by true (Some s) = same _ _
+          by true None = refl
+          by false o = refl
 
   -- The exchange after a sound master frame: done if we reply, whatever the reply tells.
   pub exchange_unmoved : exchange_for (device_with l d) m w ≡ exchange_for d m w
   unfolding exchange_for
   exchange_unmoved = answer_unmoved (awaits (expected_of (code_of w)) w) (by (expected_of (code_of w)))
     where
-      by : (x : Option ℕ) (u v : List ℕ) → awaits x w (some u) ≡ awaits x w (some v)
-      by none u v = refl
-      by (some n) u v = refl
+      by : (x : Option ℕ) (u v : List ℕ) → awaits x w (Some u) ≡ awaits x w (Some v)
+      by None u v = refl
+      by (Some n) u v = refl
 
   -- Whether a sound master frame asks somebody else.
   pub asks_unmoved : (x : Option ℕ) → asks_others x (answer_to (device_with l d) m w) ≡ asks_others x (answer_to d m w)
   asks_unmoved x = answer_unmoved (asks_others x) (by x)
     where
-      by : (x : Option ℕ) (u v : List ℕ) → asks_others x (some u) ≡ asks_others x (some v)
-      by none u v = refl
-      by (some n) u v = refl
+      by : (x : Option ℕ) (u v : List ℕ) → asks_others x (Some u) ≡ asks_others x (Some v)
+      by None u v = refl
+      by (Some n) u v = refl
 
 -- The answer to any other master frame than a status poll, whatever the device.
 pub data_unmoved : (d e : Device) (m : Areas) (w : ℕ) → (code_of w ≡ 15 → ⊥) → answer_to d m w ≡ answer_to e m w
@@ -160,5 +161,5 @@ unfolding answer_to
 data_unmoved d e m w n = ap (if_expected (expected_of (code_of w))) (own (source_for m w))
   where
     own : (o : Option (List ℕ)) → own_words d w o ≡ own_words e w o
-    own none = rw (ne_eqb (code_of w) 15 n)
-    own (some ws) = refl
+    own None = rw (ne_eqb (code_of w) 15 n)
+    own (Some ws) = refl

@@ -3,7 +3,7 @@
 use Prim.Native.Nat.{ℕ}
 use mathlib.Core.Bool.{Bool, true, false, not, ◌&&◌}
 use mathlib.Core.List.{List, [], ◌∷◌}
-use mathlib.Core.Option.{Option, none}
+use Rattle.std.specs.Prelude.{Option, None}
 use lib.Dec.{eqb, ltb}
 use mathlib.Core.Path.{◌≡◌, refl}
 use Rattle.frames.specs.Judge.{is_sound}
@@ -27,11 +27,11 @@ use Rattle.model.specs.Event.{hear_effect, hear_answer}
 
 -- the words that we reply, if we do: a sound master frame alone is answered
 abbrev pub answer_of : Device → Areas → Heard → Option (List ℕ)
-answer_of d m Nothing = none
-answer_of d m Unsound = none
+answer_of d m Nothing = None
+answer_of d m Unsound = None
 answer_of d m (Master w) = answer_to d m w
-answer_of d m (Reply w j) = none
-answer_of d m Stray = none
+answer_of d m (Reply w j) = None
+answer_of d m Stray = None
 
 -- unsound master: idle; sound master: as above; slave while waiting: done
 abbrev pub exchange_after : Device → Areas → Exchange → Heard → Exchange

@@ -3,7 +3,7 @@ use Prim.Native.Nat.{ℕ}
 use mathlib.Core.Path.{◌≡◌, refl, sym, ◌∙◌, ap}
 use mathlib.Core.Bool.{Bool, true, false, cond, ◌&&◌, true≢false, false≢true, and-false, and-eq-true_iff}
 use mathlib.Core.List.{List, ◌∷◌}
-use mathlib.Core.Option.{Option, none, some}
+use Rattle.std.specs.Prelude.{Option, None, Some}
 use native.Mathlib.Decide.{ℕ_discrete}
 use lib.Dec.{eqb}
 use lib.ListN.{length}
@@ -40,32 +40,32 @@ sound_answer k o h w = is_slave k && is_word o w && is_sound (judged_slave (code
 
 -- what stands at an address, if the sinks whose master word passes the test take these words
 abbrev pub taken_by : (ℕ → Bool) → List ℕ → Option Standing → Option Standing
-taken_by f ws none = none
-taken_by f ws (some v) = some (cond (v.sink && f v.word) (refill ws v) v)
+taken_by f ws None = None
+taken_by f ws (Some v) = Some (cond (v.sink && f v.word) (refill ws v) v)
 
 -- and what the address shows
 pub taken_viewed : (f : ℕ → Bool) (ws : List ℕ) (o : Option Standing) → viewed (taken_by f ws o) ≡ taken_if f ws (viewed o)
-taken_viewed f ws none = refl
-taken_viewed f ws (some v) = go (v.sink && f v.word)
+taken_viewed f ws None = refl
+taken_viewed f ws (Some v) = go (v.sink && f v.word)
   where
-    go : (b : Bool) → some (view_of (cond b (refill ws v) v)) ≡ some (cond b (refilled ws (view_of v)) (view_of v))
+    go : (b : Bool) → Some (view_of (cond b (refill ws v) v)) ≡ Some (cond b (refilled ws (view_of v)) (view_of v))
     go true = refl
     go false = refl
 
 -- where no word passes, nothing is taken
 none_taken : (f : ℕ → Bool) (ws : List ℕ) (o : Option Standing) → ((w : ℕ) → f w ≡ false) → o ≡ taken_by f ws o
-none_taken f ws none h = refl
-none_taken f ws (some v) h = rw (h v.word, and-false v.sink)
+none_taken f ws None h = refl
+none_taken f ws (Some v) h = rw (h v.word, and-false v.sink)
 
 -- the sink that stands open for a word is the one that is found for it
-pub sink_found : (m : Areas) (a : ℕ) (v : Standing) → standing m a ≡ some v → v.sink ≡ true → sink_for m v.word ≡ some v
+pub sink_found : (m : Areas) (a : ℕ) (v : Standing) → standing m a ≡ Some v → v.sink ≡ true → sink_for m v.word ≡ Some v
 unfolding port_for
 sink_found m a v e k =
     let at = standing_at_lem m a v e in
     rw (le-leb (code_of v.word) 4 at.code, at.address, e, eq-eqb v.word v.word refl, k)
 
 -- no sink is found for w: then none with this word is open
-pub none_found : (m : Areas) (w : ℕ) → sink_for m w ≡ none → (a : ℕ) (v : Standing) → standing m a ≡ some v → (v.sink && eqb w v.word) ≡ false
+pub none_found : (m : Areas) (w : ℕ) → sink_for m w ≡ None → (a : ℕ) (v : Standing) → standing m a ≡ Some v → (v.sink && eqb w v.word) ≡ false
 none_found m w n a v e = go v.sink (eqb w v.word) refl refl
   where
     go : (b c : Bool) → v.sink ≡ b → eqb w v.word ≡ c → (b && c) ≡ false
@@ -74,7 +74,7 @@ none_found m w n a v e = go v.sink (eqb w v.word) refl refl
     go false c eb ec = refl
 
 -- the sink u is found for w: it is the one port that stands open as a sink with this word
-pub found_port : (m : Areas) (w : ℕ) (u : Standing) → sink_for m w ≡ some u → (a : ℕ) (v : Standing) → standing m a ≡ some v
+pub found_port : (m : Areas) (w : ℕ) (u : Standing) → sink_for m w ≡ Some u → (a : ℕ) (v : Standing) → standing m a ≡ Some v
     → eqb v.port u.port ≡ (v.sink && eqb w v.word)
 found_port m w u found a v e = go (ℕ_discrete v.port u.port)
   where
@@ -84,14 +84,14 @@ found_port m w u found a v e = go (ℕ_discrete v.port u.port)
     go : Dec (v.port ≡ u.port) → eqb v.port u.port ≡ (v.sink && eqb w v.word)
     go (yes p) =
         let here : a ≡ address_of w = distinct m a (address_of w) v u e at.there p in
-        let seen : some v ≡ some u = sym e ∙ ap (standing m) here ∙ at.there in
+        let seen : Some v ≡ Some u = sym e ∙ ap (standing m) here ∙ at.there in
         let same : v ≡ u = cc in
         rw (eq-eqb _ _ p, ap (λ (x : Standing). x.sink) same ∙ at.sink, ap (λ (x : Standing). x.word) same ∙ at.word, eq-eqb w w refl)
     go (no n) = rw (ne_eqb _ _ n) (sym (other v.sink (eqb w v.word) refl refl))
       where
         other : (b c : Bool) → v.sink ≡ b → eqb w v.word ≡ c → (b && c) ≡ false
         other true true eb ec =
-            let q : some u ≡ some v = sym found ∙ ap (sink_for m) (eqb-true _ _ ec) ∙ sink_found m a v e eb in
+            let q : Some u ≡ Some v = sym found ∙ ap (sink_for m) (eqb-true _ _ ec) ∙ sink_found m a v e eb in
             let z : u ≡ v = cc in
             absurd (n (sym (ap (λ (x : Standing). x.port) z)))
         other true false eb ec = refl
@@ -111,7 +111,7 @@ module _ (m : Areas) (h : Hearing) (w : ℕ) where
       go false eb = refl
 
   -- no sink is found for w: then none whose word passes is open
-  none_open : sink_for m w ≡ none → (a : ℕ) (v : Standing) → standing m a ≡ some v → (v.sink && passes v.word) ≡ false
+  none_open : sink_for m w ≡ None → (a : ℕ) (v : Standing) → standing m a ≡ Some v → (v.sink && passes v.word) ≡ false
   unfolding passes
   none_open n a v e =
       go v.sink (eqb w v.word) (none_found m w n a v e)
@@ -122,8 +122,8 @@ module _ (m : Areas) (h : Hearing) (w : ℕ) where
       go false c f = refl
 
   -- the sink u is found for w: it is the one port that takes the frame
-  module _ (u : Standing) (found : sink_for m w ≡ some u) (sound : judged_slave (code_of w) h ≡ Sound) where
-    one_port : (a : ℕ) (v : Standing) → standing m a ≡ some v → eqb v.port u.port ≡ (v.sink && passes v.word)
+  module _ (u : Standing) (found : sink_for m w ≡ Some u) (sound : judged_slave (code_of w) h ≡ Sound) where
+    one_port : (a : ℕ) (v : Standing) → standing m a ≡ Some v → eqb v.port u.port ≡ (v.sink && passes v.word)
     unfolding passes
     one_port a v e = found_port m w u found a v e ∙ ap (λ (b : Bool). v.sink && b) (go (eqb w v.word) refl)
       where
@@ -140,15 +140,15 @@ module _ (m : Areas) (h : Hearing) (w : ℕ) where
     where
       go : (o : Option Standing) → sink_for m w ≡ o → (j : Judgement) → judged_slave (code_of w) h ≡ j → (x : Option Standing) → standing m a ≡ x
           → standing_after (taken o j h) a x ≡ taken_by passes (words_of h) x
-      go o eo j ej none ex = blank o j
+      go o eo j ej None ex = blank o j
         where
-          blank : (o : Option Standing) (j : Judgement) → standing_after (taken o j h) a none ≡ none
-          blank none j = refl
-          blank (some u) Sound = refl
-          blank (some u) (Bad wrong) = refl
-      go none eo j ej (some v) ex = rw (none_open eo a v ex)
-      go (some u) eo Sound ej (some v) ex = rw (one_port u eo ej a v ex)
-      go (some u) eo (Bad wrong) ej (some v) ex = none_taken passes (words_of h) (some v) (unsound_passes ej)
+          blank : (o : Option Standing) (j : Judgement) → standing_after (taken o j h) a None ≡ None
+          blank None j = refl
+          blank (Some u) Sound = refl
+          blank (Some u) (Bad wrong) = refl
+      go None eo j ej (Some v) ex = rw (none_open eo a v ex)
+      go (Some u) eo Sound ej (Some v) ex = rw (one_port u eo ej a v ex)
+      go (Some u) eo (Bad wrong) ej (Some v) ex = none_taken passes (words_of h) (Some v) (unsound_passes ej)
 
 -- A slave frame is taken exactly when it is a sound answer to the master word of an open sink; no other frame is seen at any address.
 pub taken_exactly : (m : Areas) → Shape m → (h : Hearing) → length h.words ≡ 16 → (k : Kind) (x : Exchange) (t : Times) → Live x t
@@ -176,7 +176,7 @@ fills_port (opened a p code sink i limit) q = false
 fills_port (closed a p) q = false
 
 -- So the port of an address is filled exactly when it is a sink whose master word is soundly answered.
-pub fills_exactly : (m : Areas) (h : Hearing) (k : Kind) (x : Exchange) (t : Times) → Live x t → (a : ℕ) (v : Standing) → standing m a ≡ some v
+pub fills_exactly : (m : Areas) (h : Hearing) (k : Kind) (x : Exchange) (t : Times) → Live x t → (a : ℕ) (v : Standing) → standing m a ≡ Some v
     → fills_port (effect_of m (as_heard k x h) h) v.port ≡ (v.sink && sound_answer k (wait_now x t 0) h v.word)
 unfolding passes
 fills_exactly m h Silence x t l a v e = sym (and-false v.sink)
@@ -192,9 +192,9 @@ fills_exactly m h SlaveFrame (Waiting w) t l a v e = rw (waits_now w t l) (go (s
   where
     go : (o : Option Standing) → sink_for m w ≡ o → (j : Judgement) → judged_slave (code_of w) h ≡ j
         → fills_port (taken o j h) v.port ≡ (v.sink && passes m h w v.word)
-    go none eo j ej = sym (none_open m h w eo a v e)
-    go (some u) eo Sound ej = one_port m h w u eo ej a v e
-    go (some u) eo (Bad wrong) ej = sym (ap (λ (b : Bool). v.sink && b) (unsound_passes m h w ej v.word) ∙ and-false v.sink)
+    go None eo j ej = sym (none_open m h w eo a v e)
+    go (Some u) eo Sound ej = one_port m h w u eo ej a v e
+    go (Some u) eo (Bad wrong) ej = sym (ap (λ (b : Bool). v.sink && b) (unsound_passes m h w ej v.word) ∙ and-false v.sink)
 
 -- What a bus event does to the areas is valid.
 pub valid_heard : (m : Areas) (h : Hearing) → length h.words ≡ 16 → (k : Kind) (x : Exchange) → Valid m (effect_of m (as_heard k x h) h)
@@ -213,18 +213,18 @@ valid_heard m h l SlaveFrame (Waiting w) = valid_taken m w h (judged_slave (code
 
 module _ (m : Areas) (h : Hearing) where
   -- a slave frame, while w is waited for, fills the sink with w if it is sound; else status bits alone change
-  pub waiting_took : (w : ℕ) → Took (sound_answer SlaveFrame (some w) h) m h (taken (sink_for m w) (judged_slave (code_of w) h) h)
+  pub waiting_took : (w : ℕ) → Took (sound_answer SlaveFrame (Some w) h) m h (taken (sink_for m w) (judged_slave (code_of w) h) h)
   unfolding passes
   waiting_took w = go (sink_for m w) refl (judged_slave (code_of w) h) refl
     where
-      open_sink_lem : sink_for m w ≡ none → (a : ℕ) (v : Standing) → standing m a ≡ some v → v.sink ≡ true → passes m h w v.word ≡ false
+      open_sink_lem : sink_for m w ≡ None → (a : ℕ) (v : Standing) → standing m a ≡ Some v → v.sink ≡ true → passes m h w v.word ≡ false
       open_sink_lem n a v e k = rw k at (none_open m h w n a v e)
 
       go : (o : Option Standing) → sink_for m w ≡ o → (j : Judgement) → judged_slave (code_of w) h ≡ j
-          → Took (sound_answer SlaveFrame (some w) h) m h (taken o j h)
-      go none eo j ej = spares still (open_sink_lem eo)
-      go (some u) eo Sound ej = let k = sink_open_lem m w u eo in takes (address_of w) u k.there k.sink (rw (k.word, eq-eqb w w refl, ej))
-      go (some u) eo (Bad wrong) ej = spares marks (λ a v e k. unsound_passes m h w ej v.word)
+          → Took (sound_answer SlaveFrame (Some w) h) m h (taken o j h)
+      go None eo j ej = spares still (open_sink_lem eo)
+      go (Some u) eo Sound ej = let k = sink_open_lem m w u eo in takes (address_of w) u k.there k.sink (rw (k.word, eq-eqb w w refl, ej))
+      go (Some u) eo (Bad wrong) ej = spares marks (λ a v e k. unsound_passes m h w ej v.word)
 
   -- whatever is heard fills the sink whose waiting word it soundly answers; else status bits alone change
   pub took_heard : (k : Kind) (x : Exchange) (t : Times) → Live x t
@@ -241,9 +241,9 @@ module _ (m : Areas) (h : Hearing) where
   took_heard SlaveFrame (Waiting w) t l = rw (waits_now w t l) (waiting_took w)
 
 -- The port that takes a frame raises its interrupt, after SFC.
-pub taken_raises : (m : Areas) (h : Hearing) (k : Kind) (x : Exchange) (t : Times) → Live x t → (a : ℕ) (v : Standing) → standing m a ≡ some v
+pub taken_raises : (m : Areas) (h : Hearing) (k : Kind) (x : Exchange) (t : Times) → Live x t → (a : ℕ) (v : Standing) → standing m a ≡ Some v
     → v.sink ≡ true
-    → sound_answer k (wait_now x t 0) h v.word ≡ true → raised0 m x t (as_heard k x h) ≡ SFC ∷ interrupt_of (some v)
+    → sound_answer k (wait_now x t 0) h v.word ≡ true → raised0 m x t (as_heard k x h) ≡ SFC ∷ interrupt_of (Some v)
 taken_raises m h Silence x t l a v e s f = absurd (false≢true f)
 taken_raises m h Noise x t l a v e s f = absurd (false≢true f)
 taken_raises m h MasterFrame x t l a v e s f = absurd (false≢true f)
@@ -256,7 +256,7 @@ taken_raises m h SlaveFrame (Waiting w) t l a v e s f = go ((and-eq-true_iff _ _
     sound (Bad wrong) q = absurd (false≢true q)
 
     go : (eqb w v.word ≡ true) × (is_sound (judged_slave (code_of v.word) h) ≡ true)
-        → raised0 m (Waiting w) t (Reply w (judged_slave (code_of w) h)) ≡ SFC ∷ interrupt_of (some v)
+        → raised0 m (Waiting w) t (Reply w (judged_slave (code_of w) h)) ≡ SFC ∷ interrupt_of (Some v)
     go p =
         let same : w ≡ v.word = eqb-true _ _ p.0 in
         rw (same, sound (judged_slave (code_of v.word) h) p.1, sink_found m a v e s)

@@ -3,7 +3,7 @@
 use Prim.Native.Nat.{ℕ, ◌%◌}
 use mathlib.Core.Path.{◌≡◌, refl}
 use mathlib.Core.List.{List}
-use mathlib.Core.Option.{Option, none, some}
+use Rattle.std.specs.Prelude.{Option, None, Some}
 use lib.ListN.{length}
 use Rattle.model.specs.Ports.{Standing, viewed}
 use Rattle.model.specs.Calls.{Call}
@@ -16,10 +16,10 @@ standing_with o ws n =
 
 -- it shows the last of the words that filled it, and its fills are their number modulo 65,536
 abbrev pub told_standing : List Call → ℕ → Option Opening → Option Standing
-told_standing past a none = none
-told_standing past a (some o) = some (standing_with o (last_of (fillings past a o)) (length (fillings past a o) % 65536))
+told_standing past a None = None
+told_standing past a (Some o) = Some (standing_with o (last_of (fillings past a o)) (length (fillings past a o) % 65536))
 
 -- its address shows what the past tells of the address
 pub told_viewed : (past : List Call) (a : ℕ) (o : Option Opening) → viewed (told_standing past a o) ≡ told_view past a o
-told_viewed past a none = refl
-told_viewed past a (some o) = refl
+told_viewed past a None = refl
+told_viewed past a (Some o) = refl

@@ -4,7 +4,7 @@ use Prim.Native.Nat.{ℕ, ◌+◌, ◌≤◌, ◌<◌}
 use mathlib.Core.Path.{◌≡◌, refl}
 use mathlib.Core.Bool.{Bool, true, false, cond, ◌&&◌}
 use mathlib.Core.List.{List}
-use mathlib.Core.Option.{Option, none, some}
+use Rattle.std.specs.Prelude.{Option, None, Some}
 use native.Mathlib.Nat.{zero-add, add_assoc}
 use native.Mathlib.Omega.{arith}
 use lib.Dec.{leb, ltb}
@@ -29,9 +29,9 @@ use Rattle.model.proofs.Tables.{exchange_after, times_after}
 
 -- what is waited for after q quiet bit times more, by the controller's state
 abbrev pub wait_now : Exchange → Times → ℕ → Option ℕ
-wait_now Idle t q = none
-wait_now (Waiting w) t q = cond (ltb (t.since + q) t.adopted) (some w) none
-wait_now Done t q = none
+wait_now Idle t q = None
+wait_now (Waiting w) t q = cond (ltb (t.since + q) t.adopted) (Some w) None
+wait_now Done t q = None
 
 -- while a word is waited for, the reply time has not passed
 abbrev pub Live : Exchange → Times → Type 0
@@ -40,7 +40,7 @@ Live (Waiting w) t = t.since < t.adopted
 Live Done t = Unit
 
 -- so at once the word itself is waited for
-pub waits_now : (w : ℕ) (t : Times) → Live (Waiting w) t → wait_now (Waiting w) t 0 ≡ some w
+pub waits_now : (w : ℕ) (t : Times) → Live (Waiting w) t → wait_now (Waiting w) t 0 ≡ Some w
 waits_now w t l = rw (lt-ltb (t.since + 0) t.adopted (omega arith))
 
 -- ---- a bus event
@@ -48,14 +48,14 @@ waits_now w t l = rw (lt-ltb (t.since + 0) t.adopted (omega arith))
 module _ (d : Device) (m : Areas) (t : Times) (h : Hearing) where
   -- the wait that a sound master frame begins, if it asks somebody else
   begun : ℕ → ℕ → Option ℕ
-  begun w q = cond (asks_others (expected_of (code_of w)) (answer_to d m w) && ltb q t.chosen) (some w) none
+  begun w q = cond (asks_others (expected_of (code_of w)) (answer_to d m w) && ltb q t.chosen) (Some w) None
 
   by_answer : (w : ℕ) (x : Option ℕ) (r : Option (List ℕ)) (q : ℕ)
       → wait_now (awaits x w r) (record { since = 0; line = 0; chosen = t.chosen; adopted = t.chosen }) q
-      ≡ cond (asks_others x r && ltb q t.chosen) (some w) none
-  by_answer w none r q = refl
-  by_answer w (some n) none q = rw zero-add
-  by_answer w (some n) (some ws) q = refl
+      ≡ cond (asks_others x r && ltb q t.chosen) (Some w) None
+  by_answer w None r q = refl
+  by_answer w (Some n) None q = rw zero-add
+  by_answer w (Some n) (Some ws) q = refl
 
   by_judgement : (j : Judgement) (x : Exchange) (before : Option ℕ) (q : ℕ)
       → wait_now (exchange_after d m x (as_master j h)) (times_after t (as_master j h)) q
@@ -64,7 +64,7 @@ module _ (d : Device) (m : Areas) (t : Times) (h : Hearing) where
   by_judgement Sound x before q = by_answer (first_word h) (expected_of (code_of (first_word h))) (answer_to d m (first_word h)) q
   by_judgement (Bad wrong) x before q = refl
 
-  by_exchange : (x : Exchange) (q : ℕ) → wait_now (exchange_after d m x (as_slave x h)) (times_after t (as_slave x h)) q ≡ none
+  by_exchange : (x : Exchange) (q : ℕ) → wait_now (exchange_after d m x (as_slave x h)) (times_after t (as_slave x h)) q ≡ None
   by_exchange Idle q = refl
   by_exchange (Waiting w) q = refl
   by_exchange Done q = refl
@@ -73,7 +73,7 @@ module _ (d : Device) (m : Areas) (t : Times) (h : Hearing) where
   pub waits_heard : (k : Kind) (x : Exchange) (q : ℕ)
       → wait_now (exchange_after d m x (as_heard k x h)) (times_after t (as_heard k x h)) q
       ≡ wait_after k (judged_master h) (wait_now x t q)
-      (cond (asks_others (expected_of (code_of (first_word h))) (answer_to d m (first_word h)) && ltb q t.chosen) (some (first_word h)) none)
+      (cond (asks_others (expected_of (code_of (first_word h))) (answer_to d m (first_word h)) && ltb q t.chosen) (Some (first_word h)) None)
   unfolding begun
   waits_heard Silence x q = refl
   waits_heard Noise x q = refl
@@ -82,9 +82,9 @@ module _ (d : Device) (m : Areas) (t : Times) (h : Hearing) where
 
   live_answer : (w : ℕ) (x : Option ℕ) (r : Option (List ℕ)) → 0 < t.chosen
       → Live (awaits x w r) (record { since = 0; line = 0; chosen = t.chosen; adopted = t.chosen })
-  live_answer w none r p = tt
-  live_answer w (some n) none p = p
-  live_answer w (some n) (some ws) p = tt
+  live_answer w None r p = tt
+  live_answer w (Some n) None p = p
+  live_answer w (Some n) (Some ws) p = tt
 
   live_master : (j : Judgement) (x : Exchange) → 0 < t.chosen → Live (exchange_after d m x (as_master j h)) (times_after t (as_master j h))
   unfolding exchange_for
@@ -117,8 +117,8 @@ waits_later (Waiting w) t l a q = go (leb t.adopted (since_later t)) refl
     counts = rw (lt-ltb t.since 1950 (omega arith))
 
     go : (b : Bool) → leb t.adopted (since_later t) ≡ b
-        → wait_now (exchange_later (Waiting w) (cond b (some w) none)) (times_later t) q ≡ cond (ltb (t.since + (1 + q)) t.adopted)
-        (some w) none
+        → wait_now (exchange_later (Waiting w) (cond b (Some w) None)) (times_later t) q ≡ cond (ltb (t.since + (1 + q)) t.adopted)
+        (Some w) None
     go true e = let h : t.adopted ≤ since_later t = leb-true _ _ e in rw (le-ltb (t.since + (1 + q)) t.adopted (omega (arith, counts)))
     go false e = rw counts (rw add_assoc)
 
@@ -128,6 +128,6 @@ live_later Idle t l = tt
 live_later Done t l = tt
 live_later (Waiting w) t l = go (leb t.adopted (since_later t)) refl
   where
-    go : (b : Bool) → leb t.adopted (since_later t) ≡ b → Live (exchange_later (Waiting w) (cond b (some w) none)) (times_later t)
+    go : (b : Bool) → leb t.adopted (since_later t) ≡ b → Live (exchange_later (Waiting w) (cond b (Some w) None)) (times_later t)
     go true e = tt
     go false e = leb-false _ _ e

@@ -4,7 +4,7 @@ use mathlib.Core.Path.{◌≡◌, refl, sym, ◌∙◌, ap}
 use mathlib.Core.Logic.{◌⊎◌, inl, inr}
 use mathlib.Core.Bool.{Bool, true, false, cond, not, false≢true}
 use mathlib.Core.List.{List, [], ◌∷◌, ◌++◌}
-use mathlib.Core.Option.{Option, none, some}
+use Rattle.std.specs.Prelude.{Option, None, Some}
 use native.Mathlib.Omega.{arith}
 use lib.Dec.{leb}
 use Rattle.frames.specs.declared.Kind.{Kind}
@@ -43,9 +43,9 @@ use Rattle.model.proofs.Finishes.{port_in, sink_port, missed_port, heard_port, w
 
 -- the word that is waited for
 abbrev wait_word : Exchange → Option ℕ
-wait_word Idle = none
-wait_word (Waiting w) = some w
-wait_word Done = none
+wait_word Idle = None
+wait_word (Waiting w) = Some w
+wait_word Done = None
 
 wait_word_lem : (x : Exchange) (t : Times) → Live x t → wait_now x t 0 ≡ wait_word x
 wait_word_lem Idle t l = refl
@@ -53,14 +53,14 @@ wait_word_lem (Waiting w) t l = waits_now w t l
 wait_word_lem Done t l = refl
 
 -- where there is no port there is no port p
-nothing_there : {p : ℕ} → none ≡ some p → ⊥
+nothing_there : {p : ℕ} → None ≡ Some p → ⊥
 nothing_there e = let z : ◌≡◌ {A = ℕ} 0 1 = cc in omega arith
 
 -- a change of status bits leaves every other port's words
-gentle_same : (e : Effect) (m : Areas) (p : ℕ) → Gentle e → (port_affected e ≡ some p → ⊥) → port_at (apply e m) p ≡ port_at m p
+gentle_same : (e : Effect) (m : Areas) (p : ℕ) → Gentle e → (port_affected e ≡ Some p → ⊥) → port_at (apply e m) p ≡ port_at m p
 unfolding apply
 gentle_same untouched m p still n = refl
-gentle_same (mark q x) m p marks n = words_other m.ports q p (marked_words (port_at m q) x) (λ i. n (ap some (sym i)))
+gentle_same (mark q x) m p marks n = words_other m.ports q p (marked_words (port_at m q) x) (λ i. n (ap Some (sym i)))
 gentle_same (fill q ws) m p never n = elim never [ ]
 gentle_same (opened a q code sink interrupt limit) m p never n = elim never [ ]
 gentle_same (closed a q) m p never n = elim never [ ]
@@ -72,12 +72,12 @@ waits_at s = sink_port s.areas (wait_word s.controller.exchange)
 -- what a part of a stretch leaves: what is waited for stays or ends, and the words of any port but the waiting one are the same, age aside
 record Waned (u s : World) : Type 0 where
   kept : Unharmed u s
-  wait : (wait_word s.controller.exchange ≡ wait_word u.controller.exchange) ⊎ (wait_word s.controller.exchange ≡ none)
-  same : (p : ℕ) → (waits_at u ≡ some p → ⊥) → ageless (port_at s.areas p) ≡ ageless (port_at u.areas p)
+  wait : (wait_word s.controller.exchange ≡ wait_word u.controller.exchange) ⊎ (wait_word s.controller.exchange ≡ None)
+  same : (p : ℕ) → (waits_at u ≡ Some p → ⊥) → ageless (port_at s.areas p) ≡ ageless (port_at u.areas p)
 
 same_sink : (m n : Areas) → Alike m n → (o : Option ℕ) → sink_port m o ≡ sink_port n o
-same_sink m n k none = refl
-same_sink m n k (some w) = rw (same_port m n k w)
+same_sink m n k None = refl
+same_sink m n k (Some w) = rw (same_port m n k w)
 
 waned_trans : (u s r : World) → Waned u s → Waned s r → Waned u r
 waned_trans u s r f g =
@@ -87,14 +87,14 @@ waned_trans u s r f g =
       same = λ p n. g.same p (λ e. n (still_waits p e f.wait)) ∙ f.same p n;
     }
   where
-    join : {a b c : Option ℕ} → (b ≡ a) ⊎ (b ≡ none) → (c ≡ b) ⊎ (c ≡ none) → (c ≡ a) ⊎ (c ≡ none)
+    join : {a b c : Option ℕ} → (b ≡ a) ⊎ (b ≡ None) → (c ≡ b) ⊎ (c ≡ None) → (c ≡ a) ⊎ (c ≡ None)
     join (inl p) (inl q) = inl (q ∙ p)
     join (inr p) (inl q) = inr (q ∙ p)
     join p (inr q) = inr q
 
-    still_waits : (p : ℕ) → waits_at s ≡ some p
-        → (wait_word s.controller.exchange ≡ wait_word u.controller.exchange) ⊎ (wait_word s.controller.exchange ≡ none)
-        → waits_at u ≡ some p
+    still_waits : (p : ℕ) → waits_at s ≡ Some p
+        → (wait_word s.controller.exchange ≡ wait_word u.controller.exchange) ⊎ (wait_word s.controller.exchange ≡ None)
+        → waits_at u ≡ Some p
     still_waits p e (inl i) =
         sym (same_sink s.areas u.areas f.kept.areas (wait_word u.controller.exchange))
         ∙ ap (sink_port s.areas) (sym i) ∙ e
@@ -103,22 +103,22 @@ waned_trans u s r f g =
 -- ---- quiet time
 
 late_wait : (x : Exchange) (t : Times)
-    → (wait_word (exchange_later x (expired x t)) ≡ wait_word x) ⊎ (wait_word (exchange_later x (expired x t)) ≡ none)
+    → (wait_word (exchange_later x (expired x t)) ≡ wait_word x) ⊎ (wait_word (exchange_later x (expired x t)) ≡ None)
 late_wait Idle t = inl refl
 late_wait Done t = inl refl
 late_wait (Waiting w) t = go (leb t.adopted (since_later t))
   where
-    go : (b : Bool) → (wait_word (exchange_later (Waiting w) (cond b (some w) none)) ≡ some w)
-        ⊎ (wait_word (exchange_later (Waiting w) (cond b (some w) none)) ≡ none)
+    go : (b : Bool) → (wait_word (exchange_later (Waiting w) (cond b (Some w) None)) ≡ Some w)
+        ⊎ (wait_word (exchange_later (Waiting w) (cond b (Some w) None)) ≡ None)
     go true = inr refl
     go false = inl refl
 
-late_port : (m : Areas) (x : Exchange) (t : Times) (p : ℕ) → port_affected (effect_later m (expired x t)) ≡ some p → sink_port m (wait_word x) ≡ some p
+late_port : (m : Areas) (x : Exchange) (t : Times) (p : ℕ) → port_affected (effect_later m (expired x t)) ≡ Some p → sink_port m (wait_word x) ≡ Some p
 late_port m Idle t p e = e
 late_port m Done t p e = e
 late_port m (Waiting w) t p e = go (leb t.adopted (since_later t)) e
   where
-    go : (b : Bool) → port_affected (effect_later m (cond b (some w) none)) ≡ some p → port_in (sink_for m w) ≡ some p
+    go : (b : Bool) → port_affected (effect_later m (cond b (Some w) None)) ≡ Some p → port_in (sink_for m w) ≡ Some p
     go true i = sym (missed_port (sink_for m w)) ∙ i
     go false i = absurd (nothing_there i)
 
@@ -163,20 +163,20 @@ waned_ticks n s h =
 -- ---- a harmless event
 
 harmless_wait : (d : Device) (m : Areas) (h : Hearing) (k : Kind) (x : Exchange) (o : Option ℕ) → harmless k o h ≡ true
-    → (wait_word (exchange_after d m x (as_heard k x h)) ≡ wait_word x) ⊎ (wait_word (exchange_after d m x (as_heard k x h)) ≡ none)
+    → (wait_word (exchange_after d m x (as_heard k x h)) ≡ wait_word x) ⊎ (wait_word (exchange_after d m x (as_heard k x h)) ≡ None)
 harmless_wait d m h Silence x o e = inl refl
 harmless_wait d m h Noise x o e = inl refl
 harmless_wait d m h MasterFrame x o e = go (judged_master h) e
   where
     go : (j : Judgement) → not (is_sound j) ≡ true
-        → (wait_word (exchange_after d m x (as_master j h)) ≡ wait_word x) ⊎ (wait_word (exchange_after d m x (as_master j h)) ≡ none)
+        → (wait_word (exchange_after d m x (as_master j h)) ≡ wait_word x) ⊎ (wait_word (exchange_after d m x (as_master j h)) ≡ None)
     go Sound i = absurd (false≢true i)
     go (Bad wrong) i = inr refl
 harmless_wait d m h SlaveFrame Idle o e = inl refl
 harmless_wait d m h SlaveFrame (Waiting w) o e = inr refl
 harmless_wait d m h SlaveFrame Done o e = inl refl
 
-if_slave : (k : Kind) (o : Option ℕ) (p : ℕ) → cond (is_slave k) o none ≡ some p → o ≡ some p
+if_slave : (k : Kind) (o : Option ℕ) (p : ℕ) → cond (is_slave k) o None ≡ Some p → o ≡ Some p
 if_slave Silence o p e = absurd (nothing_there e)
 if_slave Noise o p e = absurd (nothing_there e)
 if_slave MasterFrame o p e = absurd (nothing_there e)

@@ -2,7 +2,7 @@
 -- newest call first. Assumes nothing.
 use Rattle.std.specs.Prelude.{ℕ, ◌+◌, ◌/◌, ◌%◌, ◌≤◌, min, ◌≡◌, Bool, true, false, cond, List, [], ◌∷◌}
 use Rattle.model.specs.declared.Words.{Words}
-use Rattle.model.specs.declared.Answer.{Answer}
+use Rattle.model.specs.Answer.{Answer}
 use Rattle.model.specs.Layout.{port_at}
 use Rattle.model.specs.Ports.{is_held, too_old, state_by, oldest}
 use Rattle.model.specs.Quiet.{millisecond}

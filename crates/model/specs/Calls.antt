@@ -1,11 +1,11 @@
 -- Document 01, "What callers are told": every call, when each number is given, in the stated order, and what an accepted call does.
 -- Assumes nothing.
 use Rattle.std.specs.Prelude.{ℕ, ◌*◌, ◌≡◌, ◌⊎◌, Bool, true, false, cond, not, ◌&&◌, ◌||◌, List, [], ◌∷◌, eqb, ltb, length, replicate}
-use Rattle.std.proofs.Math.Option.{Option, none, some}
+use Rattle.std.specs.Prelude.{Option, None, Some}
 use Rattle.frames.specs.declared.Hearing.{Hearing}
 use Rattle.frames.specs.Hearing.{in_range}
-use Rattle.model.specs.declared.Answer.{Answer}
-use Rattle.model.specs.declared.Answer.TheVariants.{Never, Good, Held, Stale, Refused}
+use Rattle.model.specs.Answer.{Answer}
+use Rattle.model.specs.Answer.{Never, Good, Held, Stale, Refused}
 use Rattle.model.specs.declared.Heard.{Heard}
 use Rattle.model.specs.declared.Heard.TheVariants.{Nothing, Unsound, Master, Reply, Stray}
 use Rattle.model.specs.Layout.{Areas, areas, stride, tables_fit, pages_fit, areas_fit, entry, port_at, flags_of}
@@ -67,8 +67,8 @@ range_test out = test out_of_range out
 
 -- an index entry needed is above 255
 abbrev pub entry_above : Areas → Option ℕ → Bool
-entry_above m none = false
-entry_above m (some a) = ltb 255 (entry m a)
+entry_above m None = false
+entry_above m (Some a) = ltb 255 (entry m a)
 
 abbrev pub entry_test : Areas → Option ℕ → Test
 entry_test m o = test bad_entry (entry_above m o)
@@ -83,8 +83,8 @@ taken_test m a p = test is_taken (not (eqb (entry m a) 0) || not (eqb (port_at m
 
 -- port words needed are not well formed
 abbrev pub ill_formed : Areas → Option ℕ → Bool
-ill_formed m none = false
-ill_formed m (some a) = not (eqb (entry m a) 0) && not (well_formed a (port_at m (entry m a)))
+ill_formed m None = false
+ill_formed m (Some a) = not (eqb (entry m a) 0) && not (well_formed a (port_at m (entry m a)))
 
 abbrev pub words_test : Areas → Option ℕ → Test
 words_test m o = test bad_words (ill_formed m o)
@@ -101,7 +101,7 @@ size_test m a ws = test wrong_size (not (eqb (length ws) (size_of (code_of (port
 
 -- after 1, a host's call that needs a port, and what it asks of it
 abbrev pub at_port : Areas → ℕ → List Test → List Test
-at_port m a more = range_test (ltb 4095 a) ∷ entry_test m (some a) ∷ no_port_test m a ∷ words_test m (some a) ∷ more
+at_port m a more = range_test (ltb 4095 a) ∷ entry_test m (Some a) ∷ no_port_test m a ∷ words_test m (Some a) ∷ more
 
 -- address 0 to 4095, port 1 to 255, F-code 0 to 4 and interrupt 0 to 7 on opening; a limit is any word
 abbrev pub open_out : ℕ → ℕ → ℕ → ℕ → Bool
@@ -110,26 +110,26 @@ open_out a p code i = ltb 4095 a || eqb p 0 || ltb 255 p || ltb 4 code || ltb 7 
 -- a bus event and quiet time need an entry only for codes 0 to 4: the address of a master word, if its F-code has ports. To them entry
 -- 0 means no port
 abbrev pub needed_for : Option ℕ → Option ℕ
-needed_for none = none
-needed_for (some w) = cond (has_ports (code_of w)) (some (address_of w)) none
+needed_for None = None
+needed_for (Some w) = cond (has_ports (code_of w)) (Some (address_of w)) None
 
 abbrev pub on_bus : Areas → Bool → Option ℕ → List Test
 on_bus m out w = area_test m ∷ range_test out ∷ entry_test m (needed_for w) ∷ words_test m (needed_for w) ∷ []
 
 -- the word of a sound master, or the one waited for when a slave is judged
 abbrev pub word_of_heard : Heard → Option ℕ
-word_of_heard Nothing = none
-word_of_heard Unsound = none
-word_of_heard (Master w) = some w
-word_of_heard (Reply w j) = some w
-word_of_heard Stray = none
+word_of_heard Nothing = None
+word_of_heard Unsound = None
+word_of_heard (Master w) = Some w
+word_of_heard (Reply w j) = Some w
+word_of_heard Stray = None
 
 -- both hearings are tested; asking is lent two of the areas, a setting none
 abbrev pub tests : Call → World → List Test
 tests (hear a b) s = on_bus s.areas (not (in_range a) || not (in_range b)) (word_of_heard (heard_by s.controller a b))
 tests (quiet n) s = on_bus s.areas (ltb 65535 n) (due_within n s)
 tests (open_port a p code sink i limit) s =
-    area_test s.areas ∷ range_test (open_out a p code i) ∷ entry_test s.areas (some a) ∷ taken_test s.areas a p ∷ []
+    area_test s.areas ∷ range_test (open_out a p code i) ∷ entry_test s.areas (Some a) ∷ taken_test s.areas a p ∷ []
 tests (close_port a) s = area_test s.areas ∷ at_port s.areas a []
 tests (write_port a ws) s = area_test s.areas ∷ at_port s.areas a (side_test s.areas a ∷ size_test s.areas a ws ∷ [])
 tests (read_port a) s = table_test s.areas ∷ at_port s.areas a []
@@ -178,12 +178,12 @@ step (setting t) s = world (tell t s.controller) s.areas
 -- the words that it replies, if it does
 unfoldable pub answer : Call → World → Option (List ℕ)
 answer (hear a b) s = hear_answer s a b
-answer (quiet n) s = none
-answer (open_port a p code sink i limit) s = none
-answer (close_port a) s = none
-answer (write_port a ws) s = none
-answer (read_port a) s = none
-answer (setting t) s = none
+answer (quiet n) s = None
+answer (open_port a p code sink i limit) s = None
+answer (close_port a) s = None
+answer (write_port a ws) s = None
+answer (read_port a) s = None
+answer (setting t) s = None
 
 -- ---- every call: a refusal returns its number and no reply, and leaves controller and areas unchanged
 
@@ -196,7 +196,7 @@ abbrev pub outcome_of : ℕ → Call → World → Outcome
 outcome_of n c s =
     record {
       refusal = n;
-      reply = cond (eqb n 0) (spoken (answer c s)) (spoken none);
+      reply = cond (eqb n 0) (spoken (answer c s)) (spoken None);
       world = cond (eqb n 0) (step c s) s;
     }
 

@@ -1,7 +1,7 @@
 -- Document 01, "Damage, as demand 3 means it": a stretch of quiet and frame events in which, on neither line, a sound master frame
 -- occurs, nor a slave frame sound for the waiting code while one waits. Pasts have the newest call first. Assumes nothing.
 use Rattle.std.specs.Prelude.{ℕ, ◌≡◌, Bool, true, not, List, [], ◌∷◌, ◌++◌}
-use Rattle.std.proofs.Math.Option.{Option, none, some}
+use Rattle.std.specs.Prelude.{Option, None, Some}
 use Rattle.frames.specs.declared.Kind.{Kind}
 use Rattle.frames.specs.declared.Kind.TheVariants.{Silence, Noise, Master, Slave}
 use Rattle.frames.specs.declared.Hearing.{Hearing}
@@ -16,8 +16,8 @@ abbrev pub harmless : Kind → Option ℕ → Hearing → Bool
 harmless Silence o h = true
 harmless Noise o h = true
 harmless Master o h = not (is_sound (judged_master h))
-harmless Slave none h = true
-harmless Slave (some w) h = not (is_sound (judged_slave (code_of w) h))
+harmless Slave None h = true
+harmless Slave (Some w) h = not (is_sound (judged_slave (code_of w) h))
 
 -- quiet time is damage, and so is a harmless hearing on each line; what the host does is none
 abbrev pub DamagedBy : List Call → Happening → Type 0
@@ -47,6 +47,6 @@ pub record SoundMaster (h : Hearing) : Type 0 where
 -- a slave frame that is sound for the code of the word that is waited for
 pub record SoundReply (o : Option ℕ) (h : Hearing) : Type 0 where
   pub word : ℕ
-  pub waits : o ≡ some word
+  pub waits : o ≡ Some word
   pub kind : h.kind ≡ Slave
   pub sound : judged_slave (code_of word) h ≡ Sound

@@ -3,10 +3,10 @@
 -- poll replies. Host calls after it are the same in both runs." Document 02, W-205: "ages may change during damage and, with good against
 -- stale, differ after it". Pasts have the newest call first. Assumes nothing.
 use Rattle.std.specs.Prelude.{ℕ, ◌≡◌, Bool, true, false, cond, not, ◌&&◌, List, [], ◌∷◌, ◌++◌, eqb}
-use Rattle.std.proofs.Math.Option.{Option, none, some}
+use Rattle.std.specs.Prelude.{Option, None, Some}
 use Rattle.frames.specs.declared.Hearing.{Hearing}
-use Rattle.model.specs.declared.Answer.{Answer}
-use Rattle.model.specs.declared.Answer.TheVariants.{Never, Good, Held, Stale, Refused}
+use Rattle.model.specs.Answer.{Answer}
+use Rattle.model.specs.Answer.{Never, Good, Held, Stale, Refused}
 use Rattle.model.specs.Layout.{Areas, entry, port_at}
 use Rattle.model.specs.Ports.{code_of, address_of, has_ports, view}
 use Rattle.model.specs.Event.{World}
@@ -43,12 +43,12 @@ pub data Follows : List Call → Type 0 where
 
 -- a sink stands open with exactly the master word w
 abbrev pub is_sink_of : ℕ → Option Opening → Bool
-is_sink_of w none = false
-is_sink_of w (some o) = eqb o.word w && o.sink
+is_sink_of w None = false
+is_sink_of w (Some o) = eqb o.word w && o.sink
 
 abbrev pub sink_at : List Call → Option ℕ → Option ℕ
-sink_at past none = none
-sink_at past (some w) = cond (is_sink_of w (opening_of past (address_of w))) (some (address_of w)) none
+sink_at past None = None
+sink_at past (Some w) = cond (is_sink_of w (opening_of past (address_of w))) (Some (address_of w)) None
 
 -- the address of the open sink whose master word is waited for
 unfoldable pub waiting_address : List Call → Option ℕ
@@ -74,8 +74,8 @@ finishes past c a = finished_by past (happening c) a
 
 -- an address stays in doubt until its exchange is finished
 abbrev pub remains : (ℕ → Bool) → Option ℕ → Option ℕ
-remains f none = none
-remains f (some a) = cond (f a) none (some a)
+remains f None = None
+remains f (Some a) = cond (f a) None (Some a)
 
 -- of the addresses, at first o, that which is still in doubt after these calls
 unfoldable pub doubtful : List Call → Option ℕ → List Call → Option ℕ
@@ -87,7 +87,7 @@ doubtful past o (c ∷ calls) = remains (finishes (calls ++ past) c) (doubtful p
 -- n is m, but for ages, and for status bits of the port at address o, if there is one
 pub record ButStatus (o : Option ℕ) (m n : Areas) : Type 0 where
   pub only : StatusAndAges m n
-  pub same : (p : ℕ) → ((a : ℕ) → o ≡ some a → entry m a ≡ p → ⊥) → ageless (port_at n p) ≡ ageless (port_at m p)
+  pub same : (p : ℕ) → ((a : ℕ) → o ≡ Some a → entry m a ≡ p → ⊥) → ageless (port_at n p) ≡ ageless (port_at m p)
 
 -- an answer, good against stale aside
 abbrev pub stale_aside : Answer → Answer

@@ -1,7 +1,7 @@
 -- Document 01, "What one bus event does": a hearing for line A and one for line B. Document 02, W-201: the lines in the reply to a status
 -- poll. Assumes nothing.
 use Rattle.std.specs.Prelude.{ℕ, ◌+◌, ◌%◌, Bool, true, false, cond, not, ◌&&◌, List, [], ◌∷◌, eqb, ltb, length, get_or, replicate}
-use Rattle.std.proofs.Math.Option.{Option, none, some}
+use Rattle.std.specs.Prelude.{Option, None, Some, option_map}
 use Rattle.std.proofs.lemmas.List.Edits.{sets}
 use Rattle.sequence.specs.Frame.{frame_checks}
 use Rattle.frames.specs.declared.Kind.{Kind}
@@ -61,15 +61,15 @@ heard x h = as_heard h.kind x h
 
 -- the port that is open for a master word, exactly this one, if its F-code has ports
 abbrev pub open_for : ℕ → Option Standing → Option Standing
-open_for w none = none
-open_for w (some v) = cond (eqb v.word w) (some v) none
+open_for w None = None
+open_for w (Some v) = cond (eqb v.word w) (Some v) None
 
 unfoldable pub port_for : Areas → ℕ → Option Standing
-port_for m w = cond (has_ports (code_of w)) (open_for w (standing m (address_of w))) none
+port_for m w = cond (has_ports (code_of w)) (open_for w (standing m (address_of w))) None
 
 abbrev pub if_sink : Option Standing → Option Standing
-if_sink none = none
-if_sink (some v) = cond v.sink (some v) none
+if_sink None = None
+if_sink (Some v) = cond v.sink (Some v) None
 
 -- a SINK port with the word
 abbrev pub sink_for : Areas → ℕ → Option Standing
@@ -77,8 +77,8 @@ sink_for m w = if_sink (port_for m w)
 
 -- the words of a filled SRC port with the word
 abbrev pub if_source : Option Standing → Option (List ℕ)
-if_source none = none
-if_source (some v) = cond v.sink none v.shows
+if_source None = None
+if_source (Some v) = cond v.sink None v.shows
 
 abbrev pub source_for : Areas → ℕ → Option (List ℕ)
 source_for m w = if_source (port_for m w)
@@ -91,25 +91,30 @@ polls_us d w = eqb (code_of w) 15 && eqb (address_of w) d.address
 
 -- our device with these lines in its status word
 abbrev pub device_with : Lines → Device → Device
-device_with l d = record { address = d.address; set = d.set; status = status_with l d.status }
+device_with l d = record { address = d.address; status = option_map (status_with l) d.status }
+
+-- the status word as the words of a reply, if the host set one
+abbrev pub status_words : Option ℕ → Option (List ℕ)
+status_words None = None
+status_words (Some s) = Some (s ∷ [])
 
 -- what we reply: the valid words of the source port, or the status word, if the host set one
 abbrev pub own_words : Device → ℕ → Option (List ℕ) → Option (List ℕ)
-own_words d w none = cond (polls_us d w && d.set) (some (d.status ∷ [])) none
-own_words d w (some ws) = some ws
+own_words d w None = cond (polls_us d w) (status_words d.status) None
+own_words d w (Some ws) = Some ws
 
 abbrev pub if_expected : Option ℕ → Option (List ℕ) → Option (List ℕ)
-if_expected (some n) r = r
-if_expected none r = none
+if_expected (Some n) r = r
+if_expected None r = None
 
 -- the words that we answer a sound master frame with, if we do; an unfilled source or an unset status stays silent
 unfoldable pub answer_to : Device → Areas → ℕ → Option (List ℕ)
 answer_to d m w = if_expected (expected_of (code_of w)) (own_words d w (source_for m w))
 
 abbrev pub awaits : Option ℕ → ℕ → Option (List ℕ) → Exchange
-awaits none w r = Idle
-awaits (some n) w none = Waiting w
-awaits (some n) w (some ws) = Done
+awaits None w r = Idle
+awaits (Some n) w None = Waiting w
+awaits (Some n) w (Some ws) = Done
 
 -- codes 5, 6, 7, 10, 11: idle; a reply of ours: done; otherwise waiting
 unfoldable pub exchange_for : Device → Areas → ℕ → Exchange
@@ -135,8 +140,8 @@ unfoldable pub silent : Hearing
 silent = unmarked Silence [] (replicate 4 0) 0
 
 abbrev pub spoken : Option (List ℕ) → Hearing
-spoken none = silent
-spoken (some ws) = sent ws
+spoken None = silent
+spoken (Some ws) = sent ws
 
 -- ---- what an event brings
 
@@ -174,8 +179,8 @@ abbrev pub transfer_bit : ℕ → List ℕ
 transfer_bit i = when (not (eqb i 0)) (data_transfer i)
 
 abbrev pub interrupt_of : Option Standing → List ℕ
-interrupt_of none = []
-interrupt_of (some v) = transfer_bit v.interrupt
+interrupt_of None = []
+interrupt_of (Some v) = transfer_bit v.interrupt
 
 -- the slave frame that is judged: ESF if it is unsound, else the interrupt of the port that it fills
 abbrev pub raised_by_reply : Areas → ℕ → Judgement → List ℕ
@@ -184,9 +189,9 @@ raised_by_reply m w (Bad wrong) = ESF ∷ []
 
 -- a sound slave frame fills the sink port with the waiting word; of an unsound one only the status bits change
 abbrev pub taken : Option Standing → Judgement → Hearing → Effect
-taken none j h = untouched
-taken (some v) Sound h = fill v.port (words_of h)
-taken (some v) (Bad wrong) h = mark v.port (reply_bad wrong h.sqe h.alo)
+taken None j h = untouched
+taken (Some v) Sound h = fill v.port (words_of h)
+taken (Some v) (Bad wrong) h = mark v.port (reply_bad wrong h.sqe h.alo)
 
 pub record Brings : Type 0 where
   pub exchange : Exchange
@@ -213,7 +218,7 @@ aside c x bits unsound disturbed =
       disturbs = disturbed;
       polls = false;
       effect = untouched;
-      answer = none;
+      answer = None;
     }
 
 -- One equation for each thing that the trusted line may have heard. Nothing: silence or noise is ignored. Unsound: an unsound master
@@ -222,14 +227,14 @@ aside c x bits unsound disturbed =
 -- is not 9, 13 or 14. Stray: a slave frame while idle or done, SFC, and DSF too if done and less than the reply time has passed since the
 -- last sound master; it is not judged
 abbrev pub brings : Controller → Areas → Hearing → Hearing → Heard → Brings
-brings c m t o Nothing = aside c c.exchange [] none false
-brings c m t o Unsound = aside c Idle (EMF ∷ []) (some true) true
+brings c m t o Nothing = aside c c.exchange [] None false
+brings c m t o Unsound = aside c Idle (EMF ∷ []) (Some true) true
 brings c m t o (Master w) =
     record {
       exchange = exchange_for c.device m w;
       times = times_restarted c.times;
       raises = when (waits_for c.exchange w) DMF;
-      judged = some false;
+      judged = Some false;
       disturbs = false;
       polls = polls_us c.device w;
       effect = untouched;
@@ -240,23 +245,23 @@ brings c m t o (Reply w j) =
       exchange = Done;
       times = c.times;
       raises = SFC ∷ raised_by_reply m w j;
-      judged = some (not (is_sound j));
+      judged = Some (not (is_sound j));
       disturbs = not (is_sound j) && not (exempt (code_of w));
       polls = false;
       effect = taken (sink_for m w) j t;
-      answer = none;
+      answer = None;
     }
 brings c m t o Stray =
-    aside c c.exchange (SFC ∷ when (is_done c.exchange && ltb c.times.since c.times.adopted) DSF) none false
+    aside c c.exchange (SFC ∷ when (is_done c.exchange && ltb c.times.since c.times.adopted) DSF) None false
 
 -- the counts after it, and FEV when FC returns to 0
 abbrev pub counting : Option Bool → Counts → Counts
-counting none n = n
-counting (some unsound) n = judged_one unsound n
+counting None n = n
+counting (Some unsound) n = judged_one unsound n
 
 abbrev pub overflow : Option Bool → Counts → List ℕ
-overflow none n = []
-overflow (some unsound) n = when (eqb (judged_one unsound n).fc 0) FEV
+overflow None n = []
+overflow (Some unsound) n = when (eqb (judged_one unsound n).fc 0) FEV
 
 abbrev pub brought : Brings → Controller → Hearing → Hearing → Controller
 brought e c t o =

@@ -1,4 +1,5 @@
 pub mod Layout
+pub mod Answer
 pub mod Ports
 pub mod Lines
 pub mod Parts

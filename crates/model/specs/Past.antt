@@ -2,7 +2,7 @@
 -- past is the list of the accepted calls from a fresh controller and cleared areas on, the newest first. The one thing that is read
 -- off the controller is the state of its lines: which one is trusted, and for the reply to a status poll RLD and SLM. Assumes nothing.
 use Rattle.std.specs.Prelude.{ℕ, suc, ◌+◌, ◌%◌, ◌≡◌, Bool, true, false, cond, not, ◌&&◌, ◌||◌, List, [], ◌∷◌, eqb, ltb, length, get_or}
-use Rattle.std.proofs.Math.Option.{Option, none, some}
+use Rattle.std.specs.Prelude.{Option, None, Some}
 use Rattle.frames.specs.declared.Kind.{Kind}
 use Rattle.frames.specs.declared.Kind.TheVariants.{Silence, Noise, Master, Slave}
 use Rattle.frames.specs.declared.Hearing.{Hearing}
@@ -137,12 +137,12 @@ settings a s t = record { address = a; status = s; reply_time = t }
 
 -- at first, and after a reset
 abbrev pub fresh_settings : Settings
-fresh_settings = settings 0 none first_reply_time
+fresh_settings = settings 0 None first_reply_time
 
 -- what each setting makes of them
 abbrev pub settings_by : Setting → Settings → Settings
 settings_by (address a) x = settings a x.status x.reply_time
-settings_by (status w) x = settings x.address (some w) x.reply_time
+settings_by (status w) x = settings x.address (Some w) x.reply_time
 settings_by (reply_time t) x = settings x.address x.status t
 settings_by (slm b) x = x
 settings_by (ls b) x = x
@@ -174,13 +174,13 @@ change_of (changes f) a = f a
 -- what a change leaves open
 abbrev pub leaves : Change → Option Opening → Option Opening
 leaves keeps o = o
-leaves (opens x) o = some x
-leaves closes o = none
+leaves (opens x) o = Some x
+leaves closes o = None
 leaves (writes ws) o = o
 
 -- the last opening of address a that was not followed by a closing
 unfoldable pub opening_of : List Call → ℕ → Option Opening
-opening_of [] a = none
+opening_of [] a = None
 opening_of (c ∷ past) a = leaves (change_of (happening c) a) (opening_of past a)
 
 -- what the host writes is added, and an opening begins anew
@@ -197,15 +197,15 @@ writes_since (c ∷ past) a = written_by (change_of (happening c) a) (writes_sin
 
 -- the last of them, or that there was none
 abbrev pub last_of : List (List ℕ) → Option (List ℕ)
-last_of [] = none
-last_of (ws ∷ wss) = some ws
+last_of [] = None
+last_of (ws ∷ wss) = Some ws
 
 -- ---- replies, from the past alone
 
 -- what an open source port with exactly the master word w was last written
 abbrev pub source_told : List Call → ℕ → Option Opening → Option (List ℕ)
-source_told past w none = none
-source_told past w (some o) = cond (eqb o.word w && not o.sink) (last_of (writes_since past (address_of w))) none
+source_told past w None = None
+source_told past w (Some o) = cond (eqb o.word w && not o.sink) (last_of (writes_since past (address_of w))) None
 
 -- the lines as a sound status poll finds them, before rule 3 acts: LAA as it was; RLD set if it was, or if SLM is clear and the observed
 -- line has silence, noise, SQE or a violation
@@ -216,8 +216,8 @@ lines_polled past a b =
 
 -- a status word is replied alone, with LAA and RLD of these lines at their places
 abbrev pub status_told : Lines → Option ℕ → Option (List ℕ)
-status_told l none = none
-status_told l (some s) = some (status_with l s ∷ [])
+status_told l None = None
+status_told l (Some s) = Some (status_with l s ∷ [])
 
 -- the words that a sound master frame with the word w is answered with, for each of the sixteen F-codes; l are the lines that a poll finds.
 -- Codes 0 to 4: what the open source with exactly this word was last written. Code 15 with our device address: the status word last set,
@@ -225,15 +225,15 @@ status_told l (some s) = some (status_with l s ∷ [])
 unfoldable pub reply_told : List Call → Lines → ℕ → Option (List ℕ)
 reply_told past l w =
     cond (has_ports (code_of w)) (source_told past w (opening_of past (address_of w)))
-    (cond (eqb (code_of w) 15 && eqb (address_of w) (last_settings past).address) (status_told l (last_settings past).status) none)
+    (cond (eqb (code_of w) 15 && eqb (address_of w) (last_settings past).address) (status_told l (last_settings past).status) None)
 
 -- only a sound master frame is answered
 abbrev pub if_master : Kind → Judgement → Option (List ℕ) → Option (List ℕ)
-if_master Silence j r = none
-if_master Noise j r = none
+if_master Silence j r = None
+if_master Noise j r = None
 if_master Master Sound r = r
-if_master Master (Unsound wrong) r = none
-if_master Slave j r = none
+if_master Master (Unsound wrong) r = None
+if_master Slave j r = None
 
 -- the words that we reply to an event, if we do
 unfoldable pub reply_in : List Call → Hearing → Hearing → Option (List ℕ)
@@ -243,39 +243,39 @@ reply_in past a b = let h = on_trusted past a b in if_master h.kind (judged_mast
 
 -- a master frame asks somebody else: its code expects a reply, and we gave none
 abbrev pub asks_others : Option ℕ → Option (List ℕ) → Bool
-asks_others (some n) none = true
-asks_others (some n) (some ws) = false
-asks_others none r = false
+asks_others (Some n) None = true
+asks_others (Some n) (Some ws) = false
+asks_others None r = false
 
 -- a frame of the trusted line ends what was waited for before it; a sound master frame may begin a new wait
 abbrev pub wait_after : Kind → Judgement → Option ℕ → Option ℕ → Option ℕ
 wait_after Silence j before begun = before
 wait_after Noise j before begun = before
 wait_after Master Sound before begun = begun
-wait_after Master (Unsound wrong) before begun = none
-wait_after Slave j before begun = none
+wait_after Master (Unsound wrong) before begun = None
+wait_after Slave j before begun = None
 
 -- what is waited for after one happening more, from what was waited for before it
 abbrev pub wait_by : List Call → Happening → (ℕ → Option ℕ) → ℕ → Option ℕ
 wait_by past (hears a b) before q =
     let h = on_trusted past a b in
     let asks = asks_others (expected_of (code_of (first_word h))) (reply_told past (lines_polled past a b) (first_word h)) in
-    wait_after h.kind (judged_master h) (before q) (cond (asks && ltb q (last_settings past).reply_time) (some (first_word h)) none)
+    wait_after h.kind (judged_master h) (before q) (cond (asks && ltb q (last_settings past).reply_time) (Some (first_word h)) None)
 wait_by past (passes n) before q = before (n + q)
-wait_by past (sets t) before q = cond (is_reset t) none (before q)
+wait_by past (sets t) before q = cond (is_reset t) None (before q)
 wait_by past (changes f) before q = before q
 
 -- the word that is waited for after a past and q quiet bit times more: that of the last sound master frame that asked somebody else,
 -- while no frame and no reset followed it and the reply time that was chosen when it came has not passed
 unfoldable pub awaited : List Call → ℕ → Option ℕ
-awaited [] q = none
+awaited [] q = None
 awaited (c ∷ past) q = wait_by past (happening c) (awaited past) q
 
 -- ---- answers
 
 abbrev pub is_word : Option ℕ → ℕ → Bool
-is_word none w = false
-is_word (some v) w = eqb v w
+is_word None w = false
+is_word (Some v) w = eqb v w
 
 -- a slave frame of the trusted line is a sound answer to the master word w: it is judged while w is waited for
 unfoldable pub answers : List Call → Hearing → Hearing → ℕ → Bool
@@ -314,40 +314,40 @@ view_with o ws n = record { word = o.word; sink = o.sink; interrupt = o.interrup
 
 -- it shows the last of the words that filled it, and its fills are their number modulo 65,536
 abbrev pub told_view : List Call → ℕ → Option Opening → Option View
-told_view past a none = none
-told_view past a (some o) = some (view_with o (last_of (fillings past a o)) (length (fillings past a o) % 65536))
+told_view past a None = None
+told_view past a (Some o) = Some (view_with o (last_of (fillings past a o)) (length (fillings past a o) % 65536))
 
 -- the words that are shown, and no words where none are
 abbrev pub shown_words : Option (List ℕ) → List ℕ
-shown_words none = []
-shown_words (some ws) = ws
+shown_words None = []
+shown_words (Some ws) = ws
 
 -- what an address shows after an event, if the sinks whose master word passes the test take these words
 abbrev pub taken_if : (ℕ → Bool) → List ℕ → Option View → Option View
-taken_if f ws none = none
-taken_if f ws (some v) = some (cond (v.sink && f v.word) (refilled ws v) v)
+taken_if f ws None = None
+taken_if f ws (Some v) = Some (cond (v.sink && f v.word) (refilled ws v) v)
 
 -- ---- the counts, since the last reset
 
 -- a master frame is judged, and a slave frame while a word is waited for
 abbrev pub judged_as : Kind → Option ℕ → Hearing → Option Judgement
-judged_as Silence v h = none
-judged_as Noise v h = none
-judged_as Master v h = some (judged_master h)
-judged_as Slave none h = none
-judged_as Slave (some w) h = some (judged_slave (code_of w) h)
+judged_as Silence v h = None
+judged_as Noise v h = None
+judged_as Master v h = Some (judged_master h)
+judged_as Slave None h = None
+judged_as Slave (Some w) h = Some (judged_slave (code_of w) h)
 
 unfoldable pub judgement : List Call → Hearing → Hearing → Option Judgement
 judgement past a b = let h = on_trusted past a b in judged_as h.kind (awaited past 0) h
 
 abbrev pub add_judged : Option Judgement → ℕ → ℕ
-add_judged none n = n
-add_judged (some j) n = suc n
+add_judged None n = n
+add_judged (Some j) n = suc n
 
 abbrev pub add_unsound : Option Judgement → ℕ → ℕ
-add_unsound none n = n
-add_unsound (some Sound) n = n
-add_unsound (some (Unsound wrong)) n = suc n
+add_unsound None n = n
+add_unsound (Some Sound) n = n
+add_unsound (Some (Unsound wrong)) n = suc n
 
 -- a judged frame is added, and a setting that stops the count begins it anew
 abbrev pub count_by : (Setting → Bool) → (Option Judgement → ℕ → ℕ) → List Call → Happening → ℕ → ℕ

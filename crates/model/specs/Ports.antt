@@ -1,17 +1,17 @@
 -- Document 01, "Memory lent to the calls" and "Host calls on ports": what the areas say of a port, and the five things that a call may
 -- do to the port of an address. Document 02, W-205: the limit, the age, what is stale, and how all ports age. Assumes nothing.
 use Rattle.std.specs.Prelude.{ℕ, zero, suc, ◌+◌, ◌*◌, ◌/◌, ◌%◌, min, Bool, true, false, cond, not, ◌&&◌, ◌||◌, List, eqb, leb}
-use Rattle.std.proofs.Math.Option.{Option, none, some}
+use Rattle.std.specs.Prelude.{Option, None, Some, Ok, Err}
 use Rattle.frames.specs.declared.Wrong.{Wrong}
 use Rattle.frames.specs.Size.{expected_of}
 use Rattle.frames.specs.Judge.{no_wrong, any_wrong}
 use Rattle.model.specs.declared.Words.{Words}
 use Rattle.model.specs.declared.Flags.{Flags}
 use Rattle.model.specs.declared.Faults.{Faults}
-use Rattle.model.specs.declared.Sought.{Sought}
-use Rattle.model.specs.declared.Sought.TheVariants.{Nothing, Damaged, Port}
-use Rattle.model.specs.declared.Answer.{Answer}
-use Rattle.model.specs.declared.Answer.TheVariants.{Never, Good, Held, Stale}
+use Rattle.model.specs.Answer.{Sought}
+use Rattle.constants.specs.declared.refusals.Refusal.TheVariants.{Damaged}
+use Rattle.model.specs.Answer.{Answer}
+use Rattle.model.specs.Answer.{Never, Good, Held, Stale}
 use Rattle.model.specs.Layout.{Areas, areas, entry, with_entry, words_at, with_words, port_at, with_port, flags_of, word_of, zero_bits}
 use Rattle.model.specs.Layout.{part_of, with_part}
 
@@ -32,8 +32,8 @@ has_ports code = leb code 4
 
 -- how many words a port of this F-code has
 abbrev pub words_in : Option ℕ → ℕ
-words_in (some n) = n
-words_in none = 0
+words_in (Some n) = n
+words_in None = 0
 
 unfoldable pub size_of : ℕ → ℕ
 size_of code = words_in (expected_of code)
@@ -54,8 +54,8 @@ well_formed a w =
 -- an entry 0 means no port; one above 255 is damaged, and so are port words that are not well formed
 unfoldable pub seek : Areas → ℕ → Sought
 seek m a =
-    cond (eqb (entry m a) 0) Nothing
-    (cond (leb (entry m a) 255 && well_formed a (port_at m (entry m a))) (Port (entry m a)) Damaged)
+    cond (eqb (entry m a) 0) (Ok None)
+    (cond (leb (entry m a) 255 && well_formed a (port_at m (entry m a))) (Ok (Some (entry m a))) (Err Damaged))
 
 -- ---- what a port shows
 
@@ -85,15 +85,15 @@ standing_of m p =
       word = (port_at m p).master;
       sink = (flags_of (port_at m p).flags).sink;
       interrupt = (port_at m p).interrupt;
-      shows = cond (flags_of (port_at m p).flags).ever (some (valid_words m p)) none;
+      shows = cond (flags_of (port_at m p).flags).ever (Some (valid_words m p)) None;
       fills = (port_at m p).fills;
       limit = (port_at m p).limit;
     }
 
 abbrev pub seen : Areas → Sought → Option Standing
-seen m Nothing = none
-seen m Damaged = none
-seen m (Port p) = some (standing_of m p)
+seen m (Ok None) = None
+seen m (Err e) = None
+seen m (Ok (Some p)) = Some (standing_of m p)
 
 -- what stands open at an address, if anything does
 unfoldable pub standing : Areas → ℕ → Option Standing
@@ -113,8 +113,8 @@ view_of v =
     record { word = v.word; sink = v.sink; interrupt = v.interrupt; shows = v.shows; fills = v.fills; limit = v.limit }
 
 abbrev pub viewed : Option Standing → Option View
-viewed none = none
-viewed (some v) = some (view_of v)
+viewed None = None
+viewed (Some v) = Some (view_of v)
 
 unfoldable pub view : Areas → ℕ → Option View
 view m a = viewed (standing m a)
@@ -126,7 +126,7 @@ refilled ws v =
       word = v.word;
       sink = v.sink;
       interrupt = v.interrupt;
-      shows = some ws;
+      shows = Some ws;
       fills = (v.fills + 1) % 65536;
       limit = v.limit;
     }

@@ -1,7 +1,7 @@
 -- Document 01, "Quiet time": one quiet bit time, in the stated order, and n of them. Document 02, W-205: every 1500 of them since reset add
 -- one to the age of each open sink. Assumes nothing.
 use Rattle.std.specs.Prelude.{ℕ, zero, suc, ◌+◌, Bool, true, false, cond, not, ◌&&◌, ◌++◌, eqb, leb, ltb}
-use Rattle.std.proofs.Math.Option.{Option, none, some}
+use Rattle.std.specs.Prelude.{Option, None, Some}
 use Rattle.interrupts.specs.Names.{RTI, BTI}
 use Rattle.model.specs.declared.Exchange.{Exchange}
 use Rattle.model.specs.declared.Exchange.TheVariants.{Idle, Waiting, Done}
@@ -40,9 +40,9 @@ since_later t = cond (ltb t.since bus_timeout) (t.since + 1) t.since
 
 -- the master word whose reply time is reached, if one is waited for
 abbrev pub expired : Exchange → Times → Option ℕ
-expired Idle t = none
-expired (Waiting w) t = cond (leb t.adopted (since_later t)) (some w) none
-expired Done t = none
+expired Idle t = None
+expired (Waiting w) t = cond (leb t.adopted (since_later t)) (Some w) None
+expired Done t = None
 
 -- BTI, once: the time comes to the bus timeout
 abbrev pub bus_silent : Times → Bool
@@ -58,17 +58,17 @@ times_later t = times (since_later t) (cond (line_silent t) 0 (t.line + 1)) t.ch
 -- ---- the parts of the controller and of the areas
 
 abbrev pub exchange_later : Exchange → Option ℕ → Exchange
-exchange_later x none = x
-exchange_later x (some w) = Idle
+exchange_later x None = x
+exchange_later x (Some w) = Idle
 
 abbrev pub is_some : Option ℕ → Bool
-is_some none = false
-is_some (some w) = true
+is_some None = false
+is_some (Some w) = true
 
 -- a reply timeout, the waiting code not 9, 13 or 14
 abbrev pub disturbs_late : Option ℕ → Bool
-disturbs_late none = false
-disturbs_late (some w) = not (exempt (code_of w))
+disturbs_late None = false
+disturbs_late (Some w) = not (exempt (code_of w))
 
 -- rules 1, 2 and 5, in this order
 abbrev pub lines_later : Lines → Option ℕ → Bool → Lines
@@ -76,12 +76,12 @@ lines_later l e timeout = rule5 (rule2 timeout (rule1 (disturbs_late e) l))
 
 -- a SINK port with the waiting word gets STO alone among its status bits
 abbrev pub missed : Option Standing → Effect
-missed none = untouched
-missed (some v) = mark v.port reply_missing
+missed None = untouched
+missed (Some v) = mark v.port reply_missing
 
 abbrev pub effect_later : Areas → Option ℕ → Effect
-effect_later m none = untouched
-effect_later m (some w) = missed (sink_for m w)
+effect_later m None = untouched
+effect_later m (Some w) = missed (sink_for m w)
 
 -- ---- the rules of document 01 in one quiet bit time
 
@@ -132,9 +132,9 @@ ticks (suc n) s = ticks n (tick s)
 
 -- the master word whose reply time is reached within n bit times, if one is
 unfoldable pub due_within : ℕ → World → Option ℕ
-due_within zero s = none
+due_within zero s = None
 due_within (suc n) s = first (due s) (due_within n (pulse s))
   where
     first : Option ℕ → Option ℕ → Option ℕ
-    first none o = o
-    first (some w) o = some w
+    first None o = o
+    first (Some w) o = Some w

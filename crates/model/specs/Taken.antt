@@ -1,7 +1,7 @@
 -- Demand 2: "A slave frame is taken exactly when it is sound and answers a master frame of one of our open sink ports", said of one event,
 -- whatever controller and areas hold. Assumes nothing.
 use Rattle.std.specs.Prelude.{ℕ, ◌≡◌, ◌⊎◌, Bool, true, false, ◌&&◌, length}
-use Rattle.std.proofs.Math.Option.{some}
+use Rattle.std.specs.Prelude.{Some}
 use Rattle.frames.specs.declared.Hearing.{Hearing}
 use Rattle.frames.specs.Hearing.{words_of}
 use Rattle.frames.specs.Judge.{judged_slave, is_sound}
@@ -56,5 +56,5 @@ StatusAndAges m n = ButStatusIn ageless m n
 -- What an event that heard h does, if f tells the master words that it answers soundly: it fills the open sink whose word is answered; or no
 -- open sink's is, and it changes status bits alone.
 pub data Took (f : ℕ → Bool) (m : Areas) (h : Hearing) : Effect → Type 0 where
-  takes : (a : ℕ) (v : Standing) → standing m a ≡ some v → v.sink ≡ true → f v.word ≡ true → Took f m h (fill v.port (words_of h))
-  spares : {e : Effect} → Gentle e → ((a : ℕ) (v : Standing) → standing m a ≡ some v → v.sink ≡ true → f v.word ≡ false) → Took f m h e
+  takes : (a : ℕ) (v : Standing) → standing m a ≡ Some v → v.sink ≡ true → f v.word ≡ true → Took f m h (fill v.port (words_of h))
+  spares : {e : Effect} → Gentle e → ((a : ℕ) (v : Standing) → standing m a ≡ Some v → v.sink ≡ true → f v.word ≡ false) → Took f m h e

@@ -47,8 +47,7 @@ pub struct Counts {
 #[derive(Clone, Copy)]
 pub struct Device {
     pub address: u16,
-    pub set: bool,
-    pub status: u16,
+    pub status: Option<u16>,
 }
 
 #[derive(Clone, Copy)]
@@ -65,7 +64,8 @@ pub struct Controller {
 }
 
 // The eight words of a port: its master word, its flags, its data transfer interrupt or 0, its fills, its limit in milliseconds or 0
-// where it is not supervised, its age in milliseconds, and two that are zero.
+// where it is not supervised, its age in milliseconds, and two that are zero. They are numbers, with 0 for none, as they lie in the memory that is
+// lent.
 #[derive(Clone, Copy)]
 pub struct Words {
     pub master: u16,
@@ -99,22 +99,13 @@ pub struct Flags {
     pub faults: Faults,
 }
 
-// What the index table and the port words say of an address: no port, a damaged entry or damaged port words, or a port.
-#[derive(Clone, Copy)]
-pub enum Sought {
-    Nothing,
-    Damaged,
-    Port(u16),
-}
-
-// What asking answers.
-#[derive(Clone, Copy)]
-pub enum Answer {
+// What asking answers of a port, where it does not refuse.
+#[derive(Clone, Copy, Debug, PartialEq, Eq)]
+pub enum State {
     Never,
     Good,
     Held,
     Stale,
-    Refused(u16),
 }
 
 // What the trusted line heard, by the exchange: nothing, an unsound or a sound master frame, a slave frame that is judged while a

@@ -7,10 +7,7 @@ use std::rt::Env;
 
 // Whether there is an argument, of whatever length: its first byte is as much as is asked for.
 fn has_argument(rt: &impl Env) -> bool {
-    match rt.arg(1, &mut [0u8; 1]) {
-        Err(FillError::NotPresent) => false,
-        _ => true,
-    }
+    !matches!(rt.arg(1, &mut [0u8; 1]), Err(FillError::NotPresent))
 }
 
 fn main(rt: HostRuntime) {

@@ -23,32 +23,20 @@ fn run_file(rt: &(impl Files + Print + Eprint), path: &str) {
     }
 }
 
-// Whether there is an argument i. If so, the file that it names is one input.
-fn run_argument(rt: &(impl Env + Files + Print + Eprint), i: usize) -> bool {
-    let mut path = [0u8; 4096];
-    match rt.arg(i, &mut path) {
-        Ok(n) => {
-            match str::from_utf8(&path[..n]) {
-                Ok(path) => run_file(rt, path),
-                Err(_) => {
-                    let _ = eprintln!(rt; "argument {i}: no file is named so");
-                }
-            }
-            true
-        }
-        Err(FillError::TooLong) => {
-            let _ = eprintln!(rt; "argument {i}: no file is named so");
-            true
-        }
-        Err(FillError::NotPresent) => false,
-    }
-}
-
-// The arguments end where one is not there.
+// The arguments end where one is not there. They are counted by hand, since std's iterator over them needs a heap.
 fn main(rt: HostRuntime) {
+    let mut path = [0u8; 4096];
     for i in 1..usize::MAX {
-        if !run_argument(&rt, i) {
-            return;
+        let name = match rt.arg(i, &mut path) {
+            Ok(n) => str::from_utf8(&path[..n]).ok(),
+            Err(FillError::TooLong) => None,
+            Err(FillError::NotPresent) => return,
+        };
+        match name {
+            Some(name) => run_file(&rt, name),
+            None => {
+                let _ = eprintln!(rt; "argument {i}: no file is named so");
+            }
         }
     }
 }

@@ -1,17 +1,10 @@
 -- What is printed reads back. A number of at most 65,535 is read from its text as itself (`number_back`). A list of such numbers is read
 -- from its text as the same list, as many as they are (`list_back`), and is stored so where there is room for all of it (`stored_back`).
 -- Assumes nothing.
-use Prim.Native.Nat.{ℕ, ◌+◌, ◌-◌, ◌*◌, ◌/◌, ◌%◌, ◌<◌, ◌≤◌}
-use mathlib.Core.Path.{◌≡◌, refl, ◌∙◌, ap}
-use mathlib.Core.Bool.{Bool, true, false, cond, false≢true}
-use mathlib.Core.List.{List, [], ◌∷◌, ◌++◌, append_assoc, append-nil}
-use native.Mathlib.Nat.{div-div-eq-div-mul, div-le_self, div-eq_of_lt}
-use native.Mathlib.Omega.{arith}
-use borrow.Author.Tests.{ltb-true, le-ltb, le-leb, ne_eqb}
-use lib.Dec.{ltb}
-use lib.ListN.{length, take}
-use lib.Seq.{sets-eq, take_at}
-use Rattle.port_digits.specs.declared.Number.TheVariants.{Value}
+use Rattle.std.proofs.Common.{ℕ, ◌+◌, ◌-◌, ◌*◌, ◌/◌, ◌%◌, ◌<◌, ◌≤◌, max, ◌≡◌, refl, ◌∙◌, ap, Bool, true, false, cond, List, [], ◌∷◌, ◌++◌, append_assoc, append-nil, div-le_self, arith, ltb-true, le-ltb, le-leb, ne_eqb, ltb, length, take, take_at, Some}
+use Rattle.std.proofs.Math.Bool.{false≢true}
+use Rattle.std.proofs.Math.Nat.{div-div-eq-div-mul, div-eq_of_lt}
+use Rattle.std.proofs.Math.Seq.{sets-eq}
 use Rattle.port_digits.specs.Cut.{has}
 use Rattle.port_digits.specs.Read.{Numbers, numbers, with, items_from, numbers_in, largest, number_in, reading_of}
 use Rattle.port_digits.specs.Write.{digit_at, decimal, commas_from, commas}
@@ -59,7 +52,7 @@ rest_read : (v m : ℕ) (ws : List ℕ) → largest m ws ≤ 65535 → items_fro
 unfolding items_from commas_from largest
 rest_read v m [] h = refl
 rest_read v m (w ∷ ws) h =
-    ap (with v) (word_read w (commas_from true ws) (first_within 65535 m w ws h) ∙ rest_read w (cond (ltb m w) w m) ws h)
+    ap (with v) (word_read w (commas_from true ws) (first_within 65535 m w ws h) ∙ rest_read w (max m w) ws h)
 
 -- an empty text is not read as a first number
 numbers_read : (t vs : List ℕ) → items_from false 0 t ≡ numbers true vs → numbers_in t ≡ numbers true vs
@@ -73,7 +66,7 @@ unfolding commas commas_from largest numbers_in
 list_back [] h = refl
 list_back (w ∷ ws) h =
     numbers_read (decimal w ++ commas_from true ws) (w ∷ ws)
-    (word_read w (commas_from true ws) (first_within 65535 0 w ws h) ∙ rest_read w (cond (ltb 0 w) w 0) ws h)
+    (word_read w (commas_from true ws) (first_within 65535 0 w ws h) ∙ rest_read w (max 0 w) ws h)
 
 -- and stands in the words that are lent for it, where there is room
 pub stored_back : (into ws : List ℕ) → largest 0 ws ≤ 65535 → length ws ≤ length into
@@ -84,7 +77,7 @@ stored_back into ws h room =
 -- ---- a number alone
 
 -- a word is read from its text as itself
-pub number_back : (n : ℕ) → n ≤ 65535 → number_in (decimal n) ≡ Value n
+pub number_back : (n : ℕ) → n ≤ 65535 → number_in (decimal n) ≡ Some n
 unfolding number_in items_from
 number_back n h = rw (← append-nil (decimal n), numbers_read (decimal n ++ []) (n ∷ []) (word_read n [] h))
 

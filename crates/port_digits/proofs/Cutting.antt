@@ -1,32 +1,32 @@
 -- Texts cut at the first byte b, in the terms of the code: by how many bytes stand before it. Assumes nothing.
-use Prim.Native.Nat.{ℕ, zero, suc, ◌+◌, ◌<◌, ◌≤◌}
-use mathlib.Core.Path.{◌≡◌, refl, sym, ◌∙◌, ap}
-use mathlib.Core.Bool.{Bool, true, false, cond, ◌&&◌, false≢true}
-use mathlib.Core.List.{List, [], ◌∷◌, ◌++◌}
-use native.Mathlib.Numerals.{add-one}
-use native.Mathlib.Omega.{arith}
-use borrow.Author.Tests.{lt-ltb, le-ltb, eq-eqb}
-use lib.Dec.{eqb, ltb, leb-suc-suc}
-use lib.ListN.{length, get_or, take, drop, drop_of_length-le}
-use lib.Seq.{drop-cons}
+use Rattle.std.proofs.Common.{ℕ, zero, suc, ◌+◌, ◌<◌, ◌≤◌, ◌≡◌, refl, sym, ◌∙◌, ap, Bool, true, false, cond, ◌&&◌, ◌||◌, List, [], ◌∷◌, ◌++◌, add-one, one-add, arith, lt-ltb, le-ltb, eq-eqb, ltb-false, Some, None, eqb, ltb, length, get_or, take, drop, drop_of_length-le, drop-cons}
+use Rattle.std.proofs.Math.Bool.{false≢true}
+use Rattle.std.proofs.Math.Dec.{leb-suc-suc}
+use lib.Pointwise.{pointwise}
+use Rattle.std.specs.List.{position, position_or_len, list_any}
+use Rattle.std.specs.Option.{unwrap_or}
+use Rattle.std.proofs.lemmas.List.Recursion.{is_position_or_len}
 use Rattle.port_digits.specs.Cut.{text_before, text_after, has, until, same}
 
--- ---- the search, byte by byte
+-- ---- in std's words
 
--- the search ends where the byte is found
-pub until_here : (t : List ℕ) (b i : ℕ) → i < length t → eqb (get_or t i 0) b ≡ true → until b (drop i t) ≡ 0
-unfolding until
-until_here t b i h e = rw (drop-cons t i 0 h, e)
+-- a b is there if `contains` finds one
+pub has_any : (b : ℕ) (t : List ℕ) → has b t ≡ list_any (λ c. eqb c b) t
+unfolding has
+has_any b [] = refl
+has_any b (c ∷ cs) = go (eqb c b) (has_any b cs)
+  where
+    go : (e : Bool) → has b cs ≡ list_any (λ x. eqb x b) cs → cond e true (has b cs) ≡ (e || list_any (λ x. eqb x b) cs)
+    go true h = refl
+    go false h = h
 
--- another byte is one more before the first b
-pub until_on : (t : List ℕ) (b i : ℕ) → i < length t → eqb (get_or t i 0) b ≡ false → until b (drop i t) ≡ suc (until b (drop (i + 1) t))
-unfolding until
-until_on t b i h e = rw (drop-cons t i 0 h, e, add-one i)
-
--- at the end there is nothing left to search
-pub until_end : (t : List ℕ) (b i : ℕ) → length t ≤ i → until b (drop i t) ≡ 0
-unfolding until
-until_end t b i h = rw (drop_of_length-le t h)
+-- two texts are the same if `==` says so
+pub same_pointwise : (t s : List ℕ) → pointwise eqb t s ≡ same t s
+unfolding same
+same_pointwise [] [] = refl
+same_pointwise [] (d ∷ ds) = refl
+same_pointwise (c ∷ cs) [] = refl
+same_pointwise (c ∷ cs) (d ∷ ds) = ap (λ (e : Bool). eqb c d && e) (same_pointwise cs ds)
 
 -- ---- the parts by their lengths
 
@@ -39,6 +39,19 @@ until_within b (c ∷ cs) = go (eqb c b) (until_within b cs)
     go : (e : Bool) → until b cs ≤ length cs → cond e zero (suc (until b cs)) ≤ suc (length cs)
     go true h = omega arith
     go false h = omega arith
+
+-- it is the first place at which b stands
+until_first : (b : ℕ) (t : List ℕ) → until b t ≡ position_or_len (λ c. eqb c b) t
+unfolding until
+until_first b = is_position_or_len (until b) (λ c. eqb c b) refl (λ c cs. ap (λ (n : ℕ). cond (eqb c b) 0 n) (sym (one-add (until b cs))))
+
+-- so `position` finds it, or nothing, and then it is the length
+pub until_position : (b : ℕ) (t : List ℕ) → unwrap_or (position (λ c. eqb c b) t) (length t) ≡ until b t
+until_position b t = rw (← until_first b t) (go (ltb (until b t) (length t)) refl)
+  where
+    go : (x : Bool) → ltb (until b t) (length t) ≡ x → unwrap_or (cond x (Some (until b t)) None) (length t) ≡ until b t
+    go true e = refl
+    go false e = omega (arith, until_within b t, ltb-false (until b t) (length t) e)
 
 -- the code takes the part before b by its length
 pub take_until : (b : ℕ) (t : List ℕ) → take (until b t) t ≡ text_before b t

@@ -1,8 +1,6 @@
 -- Two results that a promise of this crate allows are equal, with what they leave in a lent buffer. The contracts are cited as they stand.
 -- Assumes nothing.
-use Prim.Native.Nat.{ℕ}
-use mathlib.Core.Path.{◌≡◌, sym, ◌∙◌, ap}
-use mathlib.Core.List.{List}
+use Rattle.std.proofs.Common.{ℕ, ◌≡◌, sym, ◌∙◌, ap, List}
 use Rattle.port_digits.specs.declared.Listed.{Listed}
 use Rattle.port_digits.specs.Read.{Reading, reading}
 use Rattle.port_digits.specs.Write.{Paper, paper}

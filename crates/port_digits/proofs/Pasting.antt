@@ -1,17 +1,9 @@
 -- Text written one piece after the other is the joined text. Assumes nothing.
-use Prim.Native.Nat.{ℕ, suc, ◌+◌, ◌<◌, ◌≤◌}
-use mathlib.Core.Path.{◌≡◌, refl, ◌∙◌, ap}
-use mathlib.Core.List.{List, [], ◌∷◌, ◌++◌}
-use mathlib.Core.Bool.{Bool, true, false, cond}
-use native.Mathlib.Nat.{add-zero, add-suc, suc-add}
-use native.Mathlib.Numerals.{add-one}
-use native.Mathlib.Omega.{arith}
-use borrow.Author.Tests.{lt-ltb, le-ltb, ltb-true, ltb-false}
-use lib.Dec.{ltb}
-use lib.ListN.{length, get_or, set, drop, length-set}
-use lib.Seq.{sets, set_out, drop-cons}
+use Rattle.std.proofs.Common.{ℕ, suc, ◌+◌, ◌<◌, ◌≤◌, ◌-◌, min, ◌≡◌, refl, ◌∙◌, ap, List, [], ◌∷◌, ◌++◌, Bool, true, false, cond, add-zero, add-suc, suc-add, add-one, arith, le-ltb, ltb-true, ltb-false, ltb, length, get_or, set, take, drop, length-set, drop-cons, take_all}
+use Rattle.std.proofs.Math.Seq.{sets, set_out}
 use Rattle.port_digits.specs.Read.{cut}
-use Rattle.port_digits.specs.Write.{Paper, paper, last_place, with_byte, onto, decimal, due_comma, commas_from}
+use Rattle.port_digits.specs.Write.{Paper, paper, last_place, next_place, with_byte, onto, decimal, commas_from, commas}
+use Rattle.port_digits.specs.Marks.{comma}
 
 -- one text after another is the joined text
 pub onto_more : (p : Paper) (t u : List ℕ) → onto (onto p t) u ≡ onto p (t ++ u)
@@ -23,6 +15,14 @@ onto_more p (b ∷ t) u = onto_more (with_byte p b) t u
 pub then : (p : Paper) (t u : List ℕ) {q r : Paper} → q ≡ onto p t → r ≡ onto q u → r ≡ onto p (t ++ u)
 then p t u e f = f ∙ ap (λ (x : Paper). onto x u) e ∙ onto_more p t u
 
+-- the next place is the sum, cut at the last place
+pub next_place_min : (n : ℕ) → n ≤ last_place → min (n + 1) last_place ≡ next_place n
+next_place_min n h = go (ltb n last_place) refl
+  where
+    go : (e : Bool) → ltb n last_place ≡ e → min (n + 1) last_place ≡ cond e (n + 1) n
+    go true e = omega (arith, ltb-true n last_place e)
+    go false e = omega (arith, ltb-false n last_place e)
+
 -- ---- one element more of what a loop writes
 
 -- the next byte of a text is written before the rest of it
@@ -30,19 +30,32 @@ pub onto_next : (p : Paper) (t : List ℕ) (i : ℕ) → i < length t → onto p
 unfolding onto
 onto_next p t i h = rw (drop-cons t i 0 h, add-one i)
 
--- the next number of a list is written, with a comma before it where one is due, before the rest of it
+-- the next number of a list is written, with a comma before it, before the rest of it
 pub commas_next : (p : Paper) (vs : List ℕ) (i : ℕ) → i < length vs
-    → onto p (commas_from (ltb 0 i) (drop i vs))
-    ≡ onto (onto (onto p (due_comma (ltb 0 i))) (decimal (get_or vs i 0))) (commas_from (ltb 0 (i + 1)) (drop (i + 1) vs))
+    → onto p (commas_from true (drop i vs))
+    ≡ onto (onto (onto p (comma ∷ [])) (decimal (get_or vs i 0))) (commas_from true (drop (i + 1) vs))
 unfolding commas_from
 commas_next p vs i h =
     rw (
       drop-cons vs i 0 h,
-      lt-ltb 0 (i + 1) (omega arith),
       add-one i,
-      onto_more p (due_comma (ltb 0 i)) (decimal (get_or vs i 0)),
-      onto_more p (due_comma (ltb 0 i) ++ decimal (get_or vs i 0)) (commas_from true (drop (suc i) vs)),
+      onto_more p (comma ∷ []) (decimal (get_or vs i 0)),
+      onto_more p (comma ∷ decimal (get_or vs i 0)) (commas_from true (drop (suc i) vs)),
     )
+
+-- a list of numbers is its first number, and the others with a comma before each
+pub commas_first : (vs : List ℕ) → 1 ≤ length vs → decimal (get_or vs 0 0) ++ commas_from true (take (length vs - 1) (drop 1 vs)) ≡ commas vs
+unfolding commas commas_from
+commas_first [] h = absurd (omega arith)
+commas_first (v ∷ vs) h =
+    let n : suc (length vs) - 1 ≡ length vs = omega arith in
+    rw (n, take_all (length vs) vs (omega arith))
+
+-- of no number nothing is written
+pub commas_none : (vs : List ℕ) → length vs < 1 → commas vs ≡ []
+unfolding commas commas_from
+commas_none [] h = refl
+commas_none (v ∷ vs) h = absurd (omega arith)
 
 -- ---- a text in a buffer that is no longer than the last place
 

@@ -1,10 +1,8 @@
 -- Decimal numbers and lists of them with commas between, as document 01's port program reads them. A number is one or more digits,
 -- leading zeros allowed, and all numbers above 65,535 are read alike. Assumes nothing.
-use Rattle.std.specs.Prelude.{ℕ, ◌+◌, ◌-◌, ◌*◌, Bool, true, false, cond, ◌&&◌, List, [], ◌∷◌, map, eqb, leb, ltb, length, get_or}
+use Rattle.std.specs.Prelude.{ℕ, ◌+◌, ◌-◌, ◌*◌, max, Bool, true, false, cond, ◌&&◌, List, [], ◌∷◌, map, eqb, leb, ltb, length, get_or, Option, None, Some}
 use Rattle.std.proofs.lemmas.List.Edits.{sets}
 use Rattle.port_digits.specs.declared.Listed.{Listed}
-use Rattle.port_digits.specs.declared.Number.{Number}
-use Rattle.port_digits.specs.declared.Number.TheVariants.{Value, Malformed}
 use Rattle.port_digits.specs.Marks.{comma}
 
 -- ---- a number, digit by digit
@@ -54,7 +52,7 @@ numbers_in (c ∷ cs) = items_from false 0 (c ∷ cs)
 -- the largest of the numbers and m
 unfoldable pub largest : ℕ → List ℕ → ℕ
 largest m [] = m
-largest m (v ∷ vs) = largest (cond (ltb m v) v m) vs
+largest m (v ∷ vs) = largest (max m v) vs
 
 -- whether it is a list, how many numbers stand in it, and the largest of them or 0
 abbrev pub listed : Numbers → Listed
@@ -78,9 +76,9 @@ abbrev pub reading_of : List ℕ → Numbers → Reading
 reading_of into n = reading (sets into 0 (values_of n)) (listed n)
 
 -- one number alone
-abbrev pub sole_number : Numbers → Number
-sole_number n = cond (n.good && eqb (length n.values) 1) (Value (get_or n.values 0 0)) Malformed
+abbrev pub sole_number : Numbers → Option ℕ
+sole_number n = cond (n.good && eqb (length n.values) 1) (Some (get_or n.values 0 0)) None
 
--- the number that a text is
-unfoldable pub number_in : List ℕ → Number
+-- the number that a text is; none where it is not one
+unfoldable pub number_in : List ℕ → Option ℕ
 number_in t = sole_number (numbers_in t)

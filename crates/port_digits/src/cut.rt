@@ -6,59 +6,37 @@ ghost use Rattle.port_digits.specs.Cut.{text_before, text_after, has, until, sam
 pub fn find(t: &[u8], b: u8) -> usize
     ensures { result ≡ until b t.now }
 {
-    let mut i: usize = 0;
-    while i < t.len() {
-        let found = t[i] == b;
-        if found {
-            return i;
-        }
-        i += 1;
-    }
-    i
+    t.iter().position(|&c| c == b).unwrap_or(t.len())
 }
 
 // The bytes before the first b.
-pub fn before<'a>(t: &'a [u8], b: u8) -> &'a [u8]
+pub fn before(t: &[u8], b: u8) -> &[u8]
     ensures { result.now ≡ text_before b t.now }
 {
-    let n = find(t, b);
-    &t[..n]
+    &t[..find(t, b)]
 }
 
 // The bytes after the first b.
-pub fn after<'a>(t: &'a [u8], b: u8) -> &'a [u8]
+pub fn after(t: &[u8], b: u8) -> &[u8]
     ensures { result.now ≡ text_after b t.now }
 {
     let n = find(t, b);
-    if n < t.len() {
-        let start = n + 1;
-        return &t[start..];
-    }
-    &t[..0]
+    if n < t.len() { &t[n + 1..] } else { &[] }
 }
 
 // A b is there.
+#[tactic(auto, using(crate::proofs::Cutting::has_any))]
 pub fn has(t: &[u8], b: u8) -> bool
     ensures { result ≡ has b t.now }
 {
-    find(t, b) < t.len()
+    t.contains(&b)
 }
 
-// Two texts are the same, byte for byte.
+// Two texts are the same, byte for byte. Texts are compared with words, which are arrays, and `==` refuses a slice beside an array: so this is a
+// function of two slices.
+#[tactic(auto, using(crate::proofs::Cutting::same_pointwise))]
 pub fn same(t: &[u8], s: &[u8]) -> bool
     ensures { result ≡ same t.now s.now }
 {
-    if t.len() != s.len() {
-        return false;
-    }
-    let mut i: usize = 0;
-    while i < t.len() {
-        let alike = t[i] == s[i];
-        if alike {
-            i += 1;
-        } else {
-            return false;
-        }
-    }
-    true
+    t == s
 }

@@ -10,11 +10,14 @@
 // `cut` has the texts, `read` the numbers, `write` the buffer. specs/Marks.antt names the bytes that stand between.
 #![tactic(auto)]
 
+ghost use Rattle.std.specs.Prelude.{◌≡◌, set};
+
 pub mod cut;
 pub mod read;
 pub mod write;
 
-// What a list of numbers is told by: whether it is one, how many numbers stand in it, and the largest of them or 0.
+// What a list of numbers is told by: whether it is one, how many numbers stand in it, and the largest of them or 0. Of a text that is no
+// list, count and largest are promised too (`numbers`): so `good` is no `Result` about them.
 #[derive(Clone, Copy)]
 pub struct Listed {
     pub good: bool,
@@ -22,9 +25,11 @@ pub struct Listed {
     pub largest: u32,
 }
 
-// A number that stands alone, 65,536 for all above 65,535.
-#[derive(Clone, Copy)]
-pub enum Number {
-    Value(u32),
-    Malformed,
+// A value stored at a place of a buffer; nothing past the end.
+fn store<T: Copy>(into: &mut [T], at: usize, x: T)
+    ensures { into.new ≡ set into.old at x }
+{
+    if at < into.len() {
+        into[at] = x;
+    }
 }

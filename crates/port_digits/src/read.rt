@@ -1,13 +1,8 @@
 // Decimal numbers, and lists of them with commas between.
-ghost use Rattle.std.specs.Prelude.{◌≡◌, false, cond, ◌-◌, ltb, set};
+ghost use Rattle.std.specs.Prelude.{◌≡◌, false};
 ghost use Rattle.port_digits.specs.Read.{is_digit, cut, longer, items_from, numbers_in, reading, reading_of, number_in};
 
-use crate::{Listed, Number};
-use logic::both;
-
-const LAST_WORD: u32 = 65535;
-
-const LAST_BYTE: u16 = 255;
+use crate::{Listed, store};
 
 // What stands for every number above the last word.
 const LARGE: u64 = 65536;
@@ -16,81 +11,47 @@ const LARGE: u64 = 65536;
 pub fn word(v: u32) -> u16
     ensures { result ≡ cut 65535 v }
 {
-    let over = LAST_WORD < v;
-    if over { 65535 } else { v as u16 }
+    u16::try_from(v).unwrap_or(u16::MAX)
 }
 
 // A word as a byte, at most 255.
 pub fn byte(v: u16) -> u8
     ensures { result ≡ cut 255 v }
 {
-    let over = LAST_BYTE < v;
-    if over { 255 } else { v as u8 }
+    u8::try_from(v).unwrap_or(u8::MAX)
 }
 
 fn is_digit(c: u8) -> bool
     ensures { result ≡ is_digit c }
 {
-    both(b'0' <= c, c <= b'9')
-}
-
-fn digit(c: u8) -> u64
-    ensures { result ≡ c - 48 }
-{
-    if c < b'0' { 0 } else { (c - b'0') as u64 }
+    c.is_ascii_digit()
 }
 
 // A number with one digit more.
 fn longer(v: u32, c: u8) -> u32
     ensures { result ≡ longer v c }
 {
-    let x = v as u64 * 10 + digit(c);
-    let over = LARGE < x;
-    if over { 65536 } else { x as u32 }
+    let x = v as u64 * 10 + c.saturating_sub(b'0') as u64;
+    x.min(LARGE) as u32
 }
 
-fn larger(a: u32, b: u32) -> u32
-    ensures { result ≡ cond (ltb a b) b a }
-{
-    let more = a < b;
-    if more { b } else { a }
-}
-
-// A word stored at a place; nothing past the end.
-fn store(into: &mut [u16], at: usize, w: u16)
-    ensures { into.new ≡ set into.old at w }
-{
-    if at < into.len() {
-        into[at] = w;
-    }
-}
-
-// A text that is not empty, byte by byte: `begun` says that the number v has a digit.
+// A text that is not empty, byte by byte: `number` is the one that has been begun, if one has.
 fn items(t: &[u8], into: &mut [u16]) -> Listed
     ensures { reading into.new result ≡ reading_of into.old (items_from false 0 t.now) }
 {
-    let mut i: usize = 0;
-    let mut begun = false;
-    let mut v: u32 = 0;
+    let mut number: Option<u32> = None;
     let mut count: usize = 0;
     let mut largest: u32 = 0;
-    while i < t.len() {
-        let c = t[i];
-        let more = is_digit(c);
-        if more {
-            v = longer(v, c);
-            begun = true;
-            i += 1;
-        } else {
-            let ends = both(begun, c == b',');
-            if ends {
+    for &c in t {
+        match number {
+            _ if is_digit(c) => number = Some(longer(number.unwrap_or(0), c)),
+            Some(v) if c == b',' => {
                 store(into, count, word(v));
-                largest = larger(largest, v);
+                largest = largest.max(v);
                 count += 1;
-                v = 0;
-                begun = false;
-                i += 1;
-            } else {
+                number = None;
+            }
+            _ => {
                 return Listed {
                     good: false,
                     count,
@@ -99,18 +60,20 @@ fn items(t: &[u8], into: &mut [u16]) -> Listed
             }
         }
     }
-    if begun {
-        store(into, count, word(v));
-        return Listed {
-            good: true,
-            count: count + 1,
-            largest: larger(largest, v),
-        };
-    }
-    Listed {
-        good: false,
-        count,
-        largest,
+    match number {
+        Some(v) => {
+            store(into, count, word(v));
+            Listed {
+                good: true,
+                count: count + 1,
+                largest: largest.max(v),
+            }
+        }
+        None => Listed {
+            good: false,
+            count,
+            largest,
+        },
     }
 }
 
@@ -118,7 +81,7 @@ fn items(t: &[u8], into: &mut [u16]) -> Listed
 pub fn numbers(t: &[u8], into: &mut [u16]) -> Listed
     ensures { reading into.new result ≡ reading_of into.old (numbers_in t.now) }
 {
-    if t.len() == 0 {
+    if t.is_empty() {
         return Listed {
             good: true,
             count: 0,
@@ -128,15 +91,14 @@ pub fn numbers(t: &[u8], into: &mut [u16]) -> Listed
     items(t, into)
 }
 
-// The number that a text is.
-pub fn number(t: &[u8]) -> Number
+// The number that a text is: one that stands alone, 65,536 for all above 65,535.
+pub fn number(t: &[u8]) -> Option<u32>
     ensures { result ≡ number_in t.now }
 {
-    let mut unused = [0u16; 1];
-    let l = numbers(t, &mut unused);
-    let alone = both(l.good, l.count == 1);
-    if alone {
-        return Number::Value(l.largest);
+    let l = numbers(t, &mut []);
+    if l.good && l.count == 1 {
+        Some(l.largest)
+    } else {
+        None
     }
-    Number::Malformed
 }

@@ -1,31 +1,18 @@
 // Text and numbers written into a lent buffer. Each function takes the place of the next byte and hands back the place after its own.
-ghost use Rattle.std.specs.Prelude.{◌≡◌, [], ◌∷◌, ◌<◌, set};
-ghost use Rattle.port_digits.specs.Write.{paper, next_place, onto, digit_at, decimal, due_comma, commas};
+//
+// Buffer and place go side by side: a struct that holds both would hold a lent buffer, and each contract would have to name its loan; and
+// there is no heap for one that owns it.
+ghost use Rattle.std.specs.Prelude.{◌≡◌, [], ◌∷◌, ◌<◌, true};
+ghost use Rattle.port_digits.specs.Write.{paper, onto, digit_at, decimal, commas, commas_from};
 
-const LAST_PLACE: usize = 18446744073709551615;
-
-// A byte stored at a place of the buffer; nothing past the end.
-fn store(out: &mut [u8], at: usize, b: u8)
-    ensures { out.new ≡ set out.old at b }
-{
-    if at < out.len() {
-        out[at] = b;
-    }
-}
-
-fn next_place(at: usize) -> usize
-    ensures { result ≡ next_place at }
-{
-    let more = at < LAST_PLACE;
-    if more { at + 1 } else { at }
-}
+use crate::store;
 
 // One byte.
 pub fn put(out: &mut [u8], at: usize, b: u8) -> usize
     ensures { paper out.new result ≡ onto (paper out.old at) (b ∷ []) }
 {
     store(out, at, b);
-    next_place(at)
+    at.saturating_add(1)
 }
 
 // A text.
@@ -33,21 +20,19 @@ pub fn put_text(out: &mut [u8], at: usize, t: &[u8]) -> usize
     ensures { paper out.new result ≡ onto (paper out.old at) t.now }
 {
     let mut p = at;
-    let mut i: usize = 0;
-    while i < t.len() {
-        p = put(out, p, t[i]);
-        i += 1;
+    for &b in t {
+        p = put(out, p, b);
     }
     p
 }
 
 // The digit of v at a power of ten, where v has it.
+#[tactic(auto, unfolding(crate::specs::Write::onto))]
 fn put_digit(out: &mut [u8], at: usize, v: u16, power: u16) -> usize
     requires { 0 < power }
     ensures { paper out.new result ≡ onto (paper out.old at) (digit_at power v) }
 {
-    let short = v < power;
-    if short {
+    if v < power {
         return at;
     }
     put(out, at, (v / power % 10 + 48) as u8)
@@ -64,26 +49,27 @@ pub fn put_number(out: &mut [u8], at: usize, v: u16) -> usize
     put(out, d, (v % 10 + 48) as u8)
 }
 
-// A comma, where one is due.
-fn put_comma(out: &mut [u8], at: usize, due: bool) -> usize
-    ensures { paper out.new result ≡ onto (paper out.old at) (due_comma due) }
+// Numbers with a comma before each.
+fn put_others(out: &mut [u8], at: usize, vs: &[u16]) -> usize
+    ensures { paper out.new result ≡ onto (paper out.old at) (commas_from true vs.now) }
 {
-    if due {
-        return put(out, at, b',');
+    let mut p = at;
+    for &v in vs {
+        p = put(out, p, b',');
+        p = put_number(out, p, v);
     }
-    at
+    p
 }
 
 // Numbers with commas between.
 pub fn put_list(out: &mut [u8], at: usize, vs: &[u16]) -> usize
     ensures { paper out.new result ≡ onto (paper out.old at) (commas vs.now) }
 {
-    let mut p = at;
-    let mut i: usize = 0;
-    while i < vs.len() {
-        let c = put_comma(out, p, 0 < i);
-        p = put_number(out, c, vs[i]);
-        i += 1;
+    match vs {
+        [] => at,
+        [first, others @ ..] => {
+            let p = put_number(out, at, *first);
+            put_others(out, p, others)
+        }
     }
-    p
 }

@@ -1,3 +1,3 @@
+pub mod Refusals
 pub mod Hosting
-pub mod Keys
 pub mod OneStep

@@ -1,55 +1,28 @@
 // One line of input.
-ghost use Rattle.std.specs.Prelude.{◌≡◌, List, ℕ};
-ghost use Rattle.port_digits.specs.Read.{cut};
+ghost use Rattle.std.specs.Prelude.{◌≡◌, Some, List, ℕ};
 ghost use Rattle.port_digits.specs.Write.{paper};
 ghost use Rattle.model.specs.Layout.{areas, Areas};
 ghost use Rattle.port_text.specs.Line.{dir_of, write_of, line_as, line_of};
-ghost use Rattle.port_line.specs.Meaning.{state_after, number_read, meaning, ended, ended_by};
+ghost use Rattle.port_line.specs.Meaning.{state_after, meaning, ended, ended_by};
 
-use crate::{Numeral, Stepped, calls};
-use logic::both;
-use port_digits::{Number, cut, read};
+use crate::{Stepped, calls};
+use port_digits::{cut, read};
 use port_text::{Key, line};
 
 // As many words of a write are kept: one more than a port has.
 const KEPT: usize = 17;
 
-fn at_most(n: usize, limit: usize) -> usize
-    ensures { result ≡ cut limit n }
-{
-    let over = limit < n;
-    if over { limit } else { n }
-}
-
-// A number that was read, with 0 as the value of a malformed one.
-fn numeral(a: Number) -> Numeral
-    ensures { number_read result ≡ a }
-{
-    match a {
-        Number::Value(n) => Numeral {
-            good: true,
-            value: n,
-        },
-        Number::Malformed => Numeral {
-            good: false,
-            value: 0,
-        },
-    }
-}
-
 fn dir_line(s: Stepped, v: &[u8]) -> Stepped
     ensures { (m : Areas) (o : List ℕ) →
         ended m o result ≡ ended_by (paper o s.at) (meaning (dir_of v.now) (state_after m s)) }
 {
-    let sink = cut::same(v, b"sink");
-    if sink {
-        return calls::set_dir(s, true);
+    if cut::same(v, b"sink") {
+        calls::set_dir(s, true)
+    } else if cut::same(v, b"source") {
+        calls::set_dir(s, false)
+    } else {
+        calls::misplace(s)
     }
-    let source = cut::same(v, b"source");
-    if source {
-        return calls::set_dir(s, false);
-    }
-    calls::misplace(s)
 }
 
 fn write_line(
@@ -67,13 +40,13 @@ fn write_line(
 {
     let mut words = [0u16; 17];
     let l = read::numbers(cut::after(v, b';'), &mut words);
-    let good = both(cut::has(v, b';'), line::is_below(l, line::LAST_WORD));
-    if good {
-        let a = numeral(read::number(cut::before(v, b';')));
-        let n = at_most(l.count, KEPT);
-        return calls::write(index, ports, page0, page1, s, a, &words[..n]);
+    if cut::has(v, b';') && line::is_below(l, line::LAST_WORD) {
+        let a = read::number(cut::before(v, b';'));
+        let n = l.count.min(KEPT);
+        calls::write(index, ports, page0, page1, s, a, &words[..n])
+    } else {
+        calls::misplace(s)
     }
-    calls::misplace(s)
 }
 
 // The line with this key and what stands behind it.
@@ -89,9 +62,9 @@ fn by_key(
 ) -> Stepped
     ensures { ended (areas index.new ports.new page0.new page1.new) out.new result ≡
         ended_by (paper out.old s.at)
-        (meaning (line_as key v.now) (state_after (areas index.old ports.old page0.old page1.old) s)) }
+        (meaning (line_as (Some key) v.now) (state_after (areas index.old ports.old page0.old page1.old) s)) }
 {
-    let n = numeral(read::number(v));
+    let n = read::number(v);
     match key {
         Key::Addr => calls::set_addr(s, n),
         Key::Fcode => calls::set_code(s, n),
@@ -101,7 +74,6 @@ fn by_key(
         Key::Slave => calls::hear(index, ports, page0, page1, out, s, line::slave(v)),
         Key::Quiet => calls::quiet(index, ports, page0, page1, out, s, n),
         Key::Write => write_line(index, ports, page0, page1, s, v),
-        Key::Unknown => calls::misplace(s),
     }
 }
 
@@ -119,7 +91,8 @@ pub fn step(
         ended_by (paper out.old s.at)
         (meaning (line_of t.now) (state_after (areas index.old ports.old page0.old page1.old) s)) }
 {
-    let key = line::key_of(cut::before(t, b'='));
-    let v = cut::after(t, b'=');
-    by_key(index, ports, page0, page1, out, s, key, v)
+    match line::key_of(cut::before(t, b'=')) {
+        Some(key) => by_key(index, ports, page0, page1, out, s, key, cut::after(t, b'=')),
+        None => calls::misplace(s),
+    }
 }

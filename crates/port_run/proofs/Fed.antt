@@ -1,12 +1,5 @@
 -- An input that comes piece by piece prints what it prints as a whole, wherever it is cut. Assumes nothing.
-use Prim.Native.Nat.{ℕ, suc, ◌<◌, ◌≤◌}
-use mathlib.Core.Path.{◌≡◌, refl, sym, ◌∙◌, ap}
-use mathlib.Core.Bool.{Bool, true, false, cond}
-use mathlib.Core.List.{List, [], ◌∷◌, ◌++◌, append-nil, append_assoc}
-use native.Mathlib.Omega.{arith}
-use borrow.Author.Tests.{eqb-true, ne_eqb, lt-ltb, le-ltb, ltb-true, ltb-false}
-use lib.Dec.{eqb, ltb}
-use lib.ListN.{length, length-append}
+use Rattle.std.proofs.Common.{ℕ, suc, ◌<◌, ◌≤◌, ◌≡◌, refl, sym, ◌∙◌, ap, Bool, true, false, cond, List, [], ◌∷◌, ◌++◌, append-nil, append_assoc, arith, eqb-true, ne_eqb, lt-ltb, le-ltb, ltb-true, ltb-false, eqb, ltb, length, length-append}
 use Rattle.port_digits.specs.Marks.{newline}
 use Rattle.port_digits.specs.Cut.{text_before, text_after, has}
 use Rattle.port_digits.proofs.Cutting.{lacks_joined}

@@ -1,25 +1,14 @@
 -- What the code leaves of a line, in the terms of the definitions. Assumes nothing.
-use Prim.Native.Nat.{ℕ, suc, ◌+◌, ◌-◌, ◌<◌, ◌≤◌}
-use mathlib.Core.Path.{◌≡◌, refl, sym, ◌∙◌, ap}
-use mathlib.Core.Bool.{Bool, true, false, cond, false≢true}
-use mathlib.Core.List.{List, [], ◌++◌, append-nil}
-use native.Mathlib.Nat.{add-suc}
-use native.Mathlib.Numerals.{add-one}
-use native.Mathlib.Omega.{arith}
-use borrow.Author.Tests.{eqb-true, lt-ltb, le-ltb, ltb-true, ltb-false}
-use lib.Dec.{eqb, ltb}
-use lib.ListN.{length, take, drop, length-append, length-drop}
-use lib.Seq.{sets, sets-eq, take_at, take_all, drop-drop, length-take-le}
-use Rattle.port_digits.specs.Marks.{newline}
-use Rattle.port_digits.specs.Cut.{text_before, text_after, has, until}
+use Rattle.std.proofs.Common.{min, ◌∷◌, suc-ne-zero, ℕ, ◌+◌, ◌<◌, ◌≤◌, ◌≡◌, refl, sym, ◌∙◌, ap, Bool, true, false, cond, List, [], ◌++◌, append-nil, arith, eqb-true, le-ltb, ltb-true, ltb-false, eqb, ltb, length, take, drop, length-append, take_at, take_all, length-take-le}
+use Rattle.std.proofs.Math.Bool.{false≢true}
+use Rattle.std.proofs.Math.Seq.{sets, sets-eq}
 use Rattle.port_digits.specs.Read.{cut}
 use Rattle.port_digits.specs.Write.{Paper, paper, onto, last_place}
-use Rattle.port_digits.proofs.Cutting.{until_within, take_until, drop_until, has_until}
 use Rattle.port_digits.proofs.Pasting.{onto_more, written}
 use Rattle.port_line.specs.Meaning.{State, Ended, Step, ended_by, misplaced, meaning}
 use Rattle.port_run.specs.Printed.{line_in}
-use Rattle.port_run.specs.Fed.{Feeding, feeding, Fed, fed_with, stop_text, worked, unended, fed, part_fed, last_fed, Left, left_by}
-use Rattle.port_run.proofs.Fed.{worked_over, part_next}
+use Rattle.port_run.specs.Fed.{Feeding, feeding, Fed, fed_with, stop_text, worked, unended, part_fed, last_fed, Left, left_by}
+use Rattle.port_run.proofs.Fed.{worked_over}
 
 -- ---- a line that has ended
 
@@ -85,42 +74,23 @@ module _ (room : ℕ) (l : List ℕ) (s : State) (p : Paper) {x : Left} (e : x �
 
 -- ---- the next part of a piece
 
--- n is where the newline was found in the rest of a piece
-module _ (t : List ℕ) (i n : ℕ) (h : i < length t) (found : n ≡ until newline (take (length t - i) (drop i t))) where
-  found_at : n ≡ until newline (drop i t)
-  found_at = found ∙ ap (until newline) (take_all (length t - i) (drop i t) (omega (arith, length-drop i t)))
+-- a count that is cut to a list's length takes as much of the list
+pub take_cut : (n k : ℕ) (l : List ℕ) → k ≡ min n (length l) → take k l ≡ take n l
+take_cut n k l cut = go (ltb (length l) n) refl
+  where
+    go : (b : Bool) → ltb (length l) n ≡ b → take k l ≡ take n l
+    go true e =
+        let h : length l < n = ltb-true (length l) n e in
+        take_all k l (omega (arith, cut, h)) ∙ sym (take_all n l (omega (arith, h)))
+    go false e =
+        let h : n ≤ length l = ltb-false (length l) n e in
+        let m : k ≡ n = omega (arith, cut, h) in
+        rw m
 
-  -- it lies in the piece, or the piece ends
-  pub part_within : i + n ≤ length t
-  part_within = omega (arith, found_at, until_within newline (drop i t), length-drop i t)
-
-  part_before : take (i + n - i) (drop i t) ≡ text_before newline (drop i t)
-  part_before = let m : i + n - i ≡ n = omega arith in rw (m, found_at) (take_until newline (drop i t))
-
-  part_ends : ltb (i + n) (length t) ≡ has newline (drop i t)
-  part_ends = go (ltb (i + n) (length t)) refl ∙ has_until newline (drop i t)
-    where
-      go : (b : Bool) → ltb (i + n) (length t) ≡ b → b ≡ ltb (until newline (drop i t)) (length (drop i t))
-      go true k =
-          let m : i + n < length t = ltb-true (i + n) (length t) k in
-          sym (lt-ltb (until newline (drop i t)) (length (drop i t)) (omega (arith, m, found_at, length-drop i t)))
-      go false k =
-          let m : length t ≤ i + n = ltb-false (i + n) (length t) k in
-          sym (le-ltb (until newline (drop i t)) (length (drop i t)) (omega (arith, m, found_at, length-drop i t)))
-
-  part_after : drop (i + n + 1) t ≡ text_after newline (drop i t)
-  part_after = rw (add-one (i + n), ← add-suc i n, ← drop-drop (suc n) i t, found_at) (drop_until newline (drop i t))
-
-  -- what the part leaves, and then the rest, is what the whole leaves
-  pub part_on : (room : ℕ) (f : Feeding) (p : Paper) {x : Left} → length f.line ≤ room
-      → x ≡ left_by p (part_fed room f (take (i + n - i) (drop i t)) (ltb (i + n) (length t)))
-      → left_by x.out (fed room x.next (drop (i + n + 1) t)) ≡ left_by p (fed room f (drop i t))
-  part_on room f p {x} short e =
-      let u = text_after newline (drop i t) in
-      let y = part_fed room f (text_before newline (drop i t)) (has newline (drop i t)) in
-      let k : x ≡ left_by p y = e ∙ rw (part_before, part_ends) in
-      rw (part_after, part_next room f (drop i t) short)
-      (ap (λ (z : Left). left_by z.out (fed room z.next u)) k ∙ rw (onto_more p y.said (fed room y.next u).said))
+-- no byte is left
+pub no_bytes : (t : List ℕ) → length t ≡ 0 → t ≡ []
+no_bytes [] e = refl
+no_bytes (c ∷ t) e = absurd (suc-ne-zero (length t) e)
 
 -- ---- at the end
 

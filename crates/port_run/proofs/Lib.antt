@@ -1,4 +1,5 @@
 pub mod Lines
 pub mod Fed
 pub mod Leaving
+pub mod Parts
 pub mod One

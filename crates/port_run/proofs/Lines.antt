@@ -1,11 +1,5 @@
 -- The lines of a text, in the terms of what stands before and after its first newline. Assumes nothing.
-use Prim.Native.Nat.{ℕ, ◌<◌, ◌≤◌}
-use mathlib.Core.Path.{◌≡◌, refl, ap}
-use mathlib.Core.Bool.{Bool, true, false, cond}
-use mathlib.Core.List.{List, [], ◌∷◌, ◌++◌}
-use native.Mathlib.Omega.{arith}
-use lib.Dec.{eqb}
-use lib.ListN.{length}
+use Rattle.std.proofs.Common.{ℕ, ◌<◌, ◌≤◌, ◌≡◌, refl, ap, Bool, true, false, cond, List, [], ◌∷◌, ◌++◌, arith, eqb, length}
 use Rattle.port_digits.specs.Marks.{newline}
 use Rattle.port_digits.specs.Cut.{text_before, text_after, has}
 use Rattle.port_digits.proofs.Cutting.{lacks}

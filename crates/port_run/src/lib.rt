@@ -7,7 +7,7 @@
 //
 // Each byte is looked at once for a newline. A line that lies whole in a piece is read where it lies; one that is cut goes into a buffer of
 // the caller's, whose length is the longest line that there is room for.
-#![tactic(auto)]
+#![tactic(auto, unfolding(crate::specs::Printed::end_text, port_digits::specs::Write::onto), using(port_line::proofs::Refusals::refused_line))]
 
 pub mod pieces;
 

@@ -10,248 +10,164 @@
 
 ghost use Rattle.std.specs.Prelude.{◌≤◌, length, IfOk};
 
-use logic::{both, either};
 use port_run::{Feed, pieces};
 use std::io::{self, ErrorKind, Read, Write};
-use std::thread;
+use std::{fmt, thread};
 
-// How things stand after a piece, and whether another may come. After the end of the input, a refusal, or a read or write that failed, none
-// may; only where the input ended are the ports reported.
-#[derive(Clone, Copy)]
-struct Turn {
-    feed: Feed,
-    more: bool,
-    ended: bool,
+// Why nothing more is printed.
+#[derive(Drop)]
+enum Fault {
+    Input(io::Error),
+    Output(io::Error),
+    NoRoom,
 }
 
-// A call that moved nothing is tried again where it was interrupted, or where the other side is not ready, which may run first.
-fn is_again(got: &io::Result<usize>) -> bool {
-    match got {
-        Ok(_) => false,
-        Err(error) => {
-            let kind = error.kind();
-            let again = either(
-                kind == ErrorKind::WouldBlock,
-                kind == ErrorKind::Interrupted,
-            );
-            if again {
-                thread::yield_now();
-            }
-            again
+impl fmt::Display for Fault {
+    fn fmt<W: fmt::Write>(&self, f: &mut fmt::Formatter<W>) -> fmt::Result {
+        match self {
+            Fault::Input(error) => write!(f, "standard input: {error}"),
+            Fault::Output(error) => write!(f, "standard output: {error}"),
+            Fault::NoRoom => write!(f, "more was said than there is room for"),
         }
     }
+}
+
+// Whether a call moved nothing because it was interrupted, or because the other side is not ready.
+fn is_passing(error: &io::Error) -> bool {
+    matches!(error.kind(), ErrorKind::WouldBlock | ErrorKind::Interrupted)
+}
+
+// What a read or a write of at most `room` bytes answers. One that moved nothing is tried again, and the other side may run first. No step moves more
+// than there is room for; `min` says so where the check, which knows nothing of what a step has captured after others were tried, can't.
+fn settled<F: FnMut() -> io::Result<usize>>(room: usize, mut step: F) -> io::Result<usize>
+    requires { F.IsAlwaysCallable step }
+    ensures { IfOk result (λ n. n ≤ room) }
+{
+    for _ in 0..u64::MAX {
+        match step() {
+            Err(error) if is_passing(&error) => thread::yield_now(),
+            answer => return answer.map(|moved| moved.min(room)),
+        }
+    }
+    Err(io::Error::from(ErrorKind::WouldBlock))
 }
 
 // Reads once, as soon as there is something to read: how many bytes came, 0 at the end of the input, or why the read fails.
 fn read_some(input: &mut impl Read, piece: &mut [u8]) -> io::Result<usize>
     ensures { IfOk result (λ n. n ≤ length piece.new) }
 {
-    let mut got = input.read(piece);
-    let mut turns = u64::MAX;
-    while turns > 0 && is_again(&got) {
-        got = input.read(piece);
-        turns -= 1;
-    }
-    got
+    settled(piece.len(), || input.read(piece))
 }
 
 // Writes once, as soon as it can: how many bytes of the text were taken, or why the write fails.
 fn write_some(output: &mut impl Write, text: &[u8]) -> io::Result<usize>
     ensures { IfOk result (λ n. n ≤ length text.now) }
 {
-    let mut put = output.write(text);
-    let mut turns = u64::MAX;
-    while turns > 0 && is_again(&put) {
-        put = output.write(text);
-        turns -= 1;
-    }
-    put
+    settled(text.len(), || output.write(text))
 }
 
-// A line on standard error: what failed, and why. Where not even that can be written, nothing is left to say it to.
-fn fail(rt: &impl Eprint, what: &str, error: io::Error) {
-    let _ = eprintln!(rt; "port: {what}: {error}");
-}
-
-// Writes all of a text, or says why it cannot.
-fn write_whole(rt: &impl Eprint, output: &mut impl Write, text: &[u8]) -> bool {
-    let mut done: usize = 0;
-    while done < text.len() {
-        match write_some(output, &text[done..]) {
-            Ok(0) => {
-                fail(rt, "standard output", io::Error::from(ErrorKind::WriteZero));
-                return false;
-            }
-            Ok(put) => done += put,
-            Err(error) => {
-                fail(rt, "standard output", error);
-                return false;
-            }
+// Writes all of a text. `write_all` of std gives up where the other side is not ready.
+fn write_whole(output: &mut impl Write, text: &[u8]) -> io::Result<()> {
+    let mut rest = text;
+    while !rest.is_empty() {
+        match write_some(output, rest)? {
+            0 => return Err(io::Error::from(ErrorKind::WriteZero)),
+            taken => rest = &rest[taken..],
         }
     }
-    true
+    Ok(())
 }
 
-// The first n bytes of a buffer, written, or why they are not.
-fn print(rt: &impl Eprint, output: &mut impl Write, out: &[u8], n: usize) -> bool {
-    if n <= out.len() {
-        return write_whole(rt, output, &out[0..n]);
-    }
-    let _ = eprintln!(rt; "port: more was said than there is room for");
-    false
-}
-
-// Works a piece, and writes what is said of it.
-fn work(
-    rt: &impl Eprint,
-    index: &mut [u16],
-    ports: &mut [u16],
-    page0: &mut [u16],
-    page1: &mut [u16],
-    line: &mut [u8],
-    out: &mut [u8],
-    f: Feed,
-    output: &mut impl Write,
-    piece: &[u8],
-) -> Turn {
-    let g = pieces::feed(index, ports, page0, page1, line, out, f, piece);
-    let printed = print(rt, output, out, g.stepped.at);
-    Turn {
-        feed: pieces::rewind(g),
-        more: both(printed, g.stepped.refusal == 0),
-        ended: false,
-    }
-}
-
-// Reads a piece and works it.
-fn one_piece(
-    rt: &impl Eprint,
-    index: &mut [u16],
-    ports: &mut [u16],
-    page0: &mut [u16],
-    page1: &mut [u16],
-    line: &mut [u8],
-    out: &mut [u8],
-    f: Feed,
-    input: &mut impl Read,
-    output: &mut impl Write,
-) -> Turn {
-    let mut piece = [0u8; 4096];
-    match read_some(input, &mut piece) {
-        Err(error) => {
-            fail(rt, "standard input", error);
-            Turn {
-                feed: f,
-                more: false,
-                ended: false,
-            }
-        }
-        Ok(0) => Turn {
-            feed: f,
-            more: false,
-            ended: true,
-        },
-        Ok(n) => work(
-            rt,
-            index,
-            ports,
-            page0,
-            page1,
-            line,
-            out,
-            f,
-            output,
-            &piece[..n],
-        ),
-    }
-}
-
-// Piece after piece, as long as one may come.
-fn all_pieces(
-    rt: &impl Eprint,
-    index: &mut [u16],
-    ports: &mut [u16],
-    page0: &mut [u16],
-    page1: &mut [u16],
-    line: &mut [u8],
-    out: &mut [u8],
-    input: &mut impl Read,
-    output: &mut impl Write,
-) -> Turn {
-    let mut t = Turn {
-        feed: pieces::begin(),
-        more: true,
-        ended: false,
-    };
-    let mut turns = u64::MAX;
-    while turns > 0 && t.more {
-        t = one_piece(
-            rt, index, ports, page0, page1, line, out, t.feed, input, output,
-        );
-        turns -= 1;
-    }
-    t
-}
-
-// The ports, and nothing after a refusal.
-fn report<'a>(
-    rt: &impl Eprint,
-    index: &[u16],
-    ports: &[u16],
-    page0: &'a [u16],
-    page1: &'a [u16],
-    out: &mut [u8],
-    f: Feed,
-    output: &mut impl Write,
-) {
-    let n = pieces::finish(index, ports, page0, page1, out, f);
-    print(rt, output, out, n);
-}
-
-// After the last piece: what is said of a line that lacks its newline, and then the ports.
-fn end(
-    rt: &impl Eprint,
-    index: &mut [u16],
-    ports: &mut [u16],
-    page0: &mut [u16],
-    page1: &mut [u16],
-    line: &mut [u8],
-    out: &mut [u8],
-    f: Feed,
-    output: &mut impl Write,
-) {
-    let g = pieces::close(index, ports, page0, page1, line, out, f);
-    let printed = print(rt, output, out, g.stepped.at);
-    if printed {
-        report(
-            rt,
-            index,
-            ports,
-            page0,
-            page1,
-            out,
-            pieces::rewind(g),
-            output,
-        );
-    }
-}
-
-// Reads the input to its end and prints what is printed of it. The areas are cleared, and a line has at most 1,024 bytes. The output's buffer
+// One run of the program: the four areas, which are cleared at first; the line that has not ended, of at most 1,024 bytes; the output's buffer, which
 // has room for what 4,096 bytes of input may say (a reply of at most 128 bytes for each master frame of at least 11) and for 255 ports of at most
-// 180 bytes.
-pub fn serve(rt: &impl Eprint, input: &mut impl Read, output: &mut impl Write) {
-    let mut index = [0u16; 4096];
-    let mut ports = [0u16; 2048];
-    let mut page0 = [0u16; 4096];
-    let mut page1 = [0u16; 4096];
-    let mut line = [0u8; 1024];
-    let mut out = [0u8; 49152];
-    let t = all_pieces(
-        rt, &mut index, &mut ports, &mut page0, &mut page1, &mut line, &mut out, input, output,
-    );
-    if t.ended {
-        end(
-            rt, &mut index, &mut ports, &mut page0, &mut page1, &mut line, &mut out, t.feed, output,
+// 180 bytes; and how far the input has been worked. The crate `port_run` promises of these parts one by one, so that each call there takes them so.
+#[derive(Drop)]
+struct Session {
+    index: [u16; 4096],
+    ports: [u16; 2048],
+    page0: [u16; 4096],
+    page1: [u16; 4096],
+    line: [u8; 1024],
+    out: [u8; 49152],
+    feed: Feed,
+}
+
+impl Session {
+    // Prints what is in the output's buffer, up to this place.
+    fn print(&mut self, output: &mut impl Write, end: usize) -> Result<(), Fault> {
+        let text = self.out.get(..end).ok_or(Fault::NoRoom)?;
+        write_whole(output, text).map_err(Fault::Output)?;
+        self.feed = pieces::rewind(self.feed);
+        Ok(())
+    }
+
+    // Works a piece, and prints what is said of it.
+    fn work(&mut self, output: &mut impl Write, piece: &[u8]) -> Result<(), Fault> {
+        self.feed = pieces::feed(
+            &mut self.index,
+            &mut self.ports,
+            &mut self.page0,
+            &mut self.page1,
+            &mut self.line,
+            &mut self.out,
+            self.feed,
+            piece,
         );
+        self.print(output, self.feed.stepped.at)
+    }
+
+    // After the last piece: what is said of a line that lacks its newline, and then the ports, but nothing after a refusal.
+    fn end(&mut self, output: &mut impl Write) -> Result<(), Fault> {
+        self.feed = pieces::close(
+            &mut self.index,
+            &mut self.ports,
+            &mut self.page0,
+            &mut self.page1,
+            &mut self.line,
+            &mut self.out,
+            self.feed,
+        );
+        self.print(output, self.feed.stepped.at)?;
+        let end = pieces::finish(
+            &self.index,
+            &self.ports,
+            &self.page0,
+            &self.page1,
+            &mut self.out,
+            self.feed,
+        );
+        self.print(output, end)
+    }
+
+    // Piece after piece, up to the end of the input or a refusal.
+    fn run(&mut self, input: &mut impl Read, output: &mut impl Write) -> Result<(), Fault> {
+        let mut piece = [0u8; 4096];
+        for _ in 0..u64::MAX {
+            match read_some(input, &mut piece).map_err(Fault::Input)? {
+                0 => return self.end(output),
+                n => self.work(output, &piece[..n])?,
+            }
+            if self.feed.stepped.refusal.is_some() {
+                return Ok(());
+            }
+        }
+        Ok(())
+    }
+}
+
+// Reads the input to its end and prints what is printed of it. A read or a write that fails is told on standard error; where not even that can be
+// written, nothing is left to say it to.
+pub fn serve(rt: &impl Eprint, input: &mut impl Read, output: &mut impl Write) {
+    let mut session = Session {
+        index: [0; 4096],
+        ports: [0; 2048],
+        page0: [0; 4096],
+        page1: [0; 4096],
+        line: [0; 1024],
+        out: [0; 49152],
+        feed: pieces::begin(),
+    };
+    if let Err(fault) = session.run(input, output) {
+        let _ = eprintln!(rt; "port: {fault}");
     }
 }

@@ -1,11 +1,6 @@
 -- The lines `addr`, `fcode`, `dir` and `index` that are printed of an open port, each without the newline that ends it, are read as the
 -- setup lines with the same values. Assumes nothing.
-use Prim.Native.Nat.{ℕ, ◌≤◌}
-use mathlib.Core.Path.{◌≡◌, refl, ◌∙◌}
-use mathlib.Core.Bool.{Bool, true, false}
-use mathlib.Core.List.{List, [], ◌∷◌, ◌++◌, append_assoc}
-use native.Mathlib.Omega.{arith}
-use borrow.Author.Tests.{le-ltb}
+use Rattle.std.proofs.Common.{ℕ, ◌≤◌, ◌≡◌, refl, ◌∙◌, Bool, true, false, List, [], ◌∷◌, ◌++◌, append_assoc, arith, le-ltb}
 use Rattle.port_digits.specs.Marks.{newline, equals}
 use Rattle.port_digits.specs.Cut.{text_before, has, same}
 use Rattle.port_digits.specs.Read.{cut, number_in}

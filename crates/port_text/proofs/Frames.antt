@@ -1,14 +1,7 @@
 -- The frame that two lists of numbers describe, from what reading them leaves; and the words of a write. Assumes nothing.
-use Prim.Native.Nat.{ℕ, suc, ◌≤◌}
-use mathlib.Core.Path.{◌≡◌, refl, sym, ◌∙◌, ap}
-use mathlib.Core.Bool.{Bool, true, false, cond, not, ◌&&◌, ◌||◌}
-use mathlib.Core.List.{List, [], ◌∷◌, map}
-use native.Mathlib.Nat.{suc-ne-zero, suc_inj}
-use native.Mathlib.Omega.{arith}
-use borrow.Author.Tests.{leb-true, ltb-false, le-ltb}
-use lib.Dec.{eqb, leb, ltb, leb-suc-suc}
-use lib.ListN.{length, get_or, set, take, replicate}
-use lib.Seq.{sets, take-nil}
+use Rattle.std.proofs.Common.{ℕ, suc, ◌≤◌, ◌≡◌, refl, sym, ◌∙◌, ap, Bool, true, false, cond, not, ◌&&◌, ◌||◌, List, [], ◌∷◌, map, arith, leb-true, ltb-false, ltb-true, min, le-ltb, Some, None, eqb, leb, ltb, length, set, take, replicate}
+use Rattle.std.proofs.Math.Dec.{leb-suc-suc}
+use Rattle.std.proofs.Math.Seq.{sets, take-nil}
 use Rattle.port_digits.specs.declared.Listed.{Listed}
 use Rattle.port_digits.specs.Marks.{semicolon}
 use Rattle.port_digits.specs.Cut.{text_before, text_after, has}
@@ -17,18 +10,7 @@ use Rattle.port_digits.proofs.Items.{told}
 use Rattle.port_digits.proofs.Limits.{cut_same, map_sets}
 use Rattle.frames.specs.declared.Kind.{Kind}
 use Rattle.model.proofs.Formed.{and_left, and_right}
-use Rattle.port_text.specs.Line.{below, first_list, second_list, is_frame_text, unmarked, hearing_of, read_as, frame_read, kept}
-
--- ---- an array of four
-
--- an array of four is its four elements
-pub four : (l : List ℕ) → length l ≡ 4 → get_or l 0 0 ∷ get_or l 1 0 ∷ get_or l 2 0 ∷ get_or l 3 0 ∷ [] ≡ l
-four [] e = absurd (suc-ne-zero 3 (sym e))
-four (a ∷ []) e = absurd (suc-ne-zero 2 (sym (suc_inj e)))
-four (a ∷ b ∷ []) e = absurd (suc-ne-zero 1 (sym (suc_inj (suc_inj e))))
-four (a ∷ b ∷ c ∷ []) e = absurd (suc-ne-zero 0 (sym (suc_inj (suc_inj (suc_inj e)))))
-four (a ∷ b ∷ c ∷ d ∷ []) e = refl
-four (a ∷ b ∷ c ∷ d ∷ x ∷ l) e = absurd (suc-ne-zero (length l) (suc_inj (suc_inj (suc_inj (suc_inj e)))))
+use Rattle.port_text.specs.Line.{below, first_list, second_list, is_frame_text, unmarked, hearing_of, frame_read, kept}
 
 -- ---- lists of which no number is above `most`
 
@@ -90,12 +72,12 @@ module _ (one : Bool) (b : ℕ) (v ws cs t u : List ℕ) (x y : Listed) (front :
     good_is = tested ∙ ap tests cut_apart ∙ frame_good
 
     -- where the test of the code holds, its frame is the one that is defined
-    pub read_good : good ≡ true → read_as true (unmarked kind ws x.count (map (cut 255) cs) y.count) ≡ frame_read kind one b v
+    pub read_good : good ≡ true → Some (unmarked kind ws x.count (map (cut 255) cs) y.count) ≡ frame_read kind one b v
     unfolding frame_read
-    read_good h = let k = sym good_is ∙ h in rw k (ap (read_as true) (frame_heard kind k))
+    read_good h = let k = sym good_is ∙ h in rw k (ap Some (frame_heard kind k))
 
     -- where it does not, the line describes none
-    pub read_malformed : good ≡ false → read_as false (hearing_of kind [] []) ≡ frame_read kind one b v
+    pub read_malformed : good ≡ false → None ≡ frame_read kind one b v
     unfolding frame_read
     read_malformed h = rw (sym good_is ∙ h)
 
@@ -122,13 +104,13 @@ stored [] vs = rw (sets_nil 0 vs) (take-nil (cut 0 (length vs)))
 stored (x ∷ l) [] = rw (le-ltb (suc (length l)) 0 (omega arith))
 stored (x ∷ l) (v ∷ vs) = rw (cut_suc (length l) (length vs), sets_cons v l 0 vs) (ap (λ (r : List ℕ). v ∷ r) (stored l vs))
 
--- what is cut to a limit is within it
-pub cut_most : (limit v : ℕ) → cut limit v ≤ limit
-cut_most limit v = go (ltb limit v) refl
+-- what is cut to a limit is the smaller of the two
+cut_min : (limit v : ℕ) → cut limit v ≡ min v limit
+cut_min limit v = go (ltb limit v) refl
   where
-    go : (b : Bool) → ltb limit v ≡ b → cond b limit v ≤ limit
-    go true e = omega arith
-    go false e = ltb-false limit v e
+    go : (b : Bool) → ltb limit v ≡ b → cond b limit v ≡ min v limit
+    go true e = omega (arith, ltb-true limit v e)
+    go false e = omega (arith, ltb-false limit v e)
 
 module _ (v ws : List ℕ) (l : Listed) (e : reading ws l ≡ reading_of (replicate 17 0) (second_list semicolon v)) where
   list : l ≡ listed (second_list semicolon v)
@@ -139,8 +121,8 @@ module _ (v ws : List ℕ) (l : Listed) (e : reading ws l ≡ reading_of (replic
   write_good = rw list
 
   -- the words that the code hands on are those that are kept
-  pub write_kept : (has semicolon v && below 65535 (second_list semicolon v)) ≡ true → take (cut 17 l.count) ws ≡ kept (second_list semicolon v).values
+  pub write_kept : (has semicolon v && below 65535 (second_list semicolon v)) ≡ true → take (min l.count 17) ws ≡ kept (second_list semicolon v).values
   write_kept h =
       let below : below 65535 (second_list semicolon v) ≡ true = and_right (has semicolon v) (below 65535 (second_list semicolon v)) h in
-      rw (list, small_stored (second_list semicolon v) 65535 below (replicate 17 0) ws l (omega arith) e)
+      rw (← cut_min 17 l.count, list, small_stored (second_list semicolon v) 65535 below (replicate 17 0) ws l (omega arith) e)
       (stored (replicate 17 0) (second_list semicolon v).values)

@@ -1,4 +1,5 @@
 pub mod Frames
+pub mod Mapped
 pub mod Ports
 pub mod Back
 pub mod One

@@ -1,6 +1,6 @@
 -- Two results that a promise of this crate allows are equal, with what they leave in the buffer. The contracts are cited as they stand.
 -- Assumes nothing.
-use mathlib.Core.Path.{◌≡◌}
+use Rattle.std.proofs.Common.{◌≡◌}
 use Rattle.port_digits.proofs.One.{one_paper}
 use Rattle.port_text.proofs.report.put_report.Reads as put-report-reads
 use Rattle.port_text.proofs.say.put_line.Reads as put-line-reads

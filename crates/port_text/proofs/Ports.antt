@@ -1,8 +1,5 @@
 -- The open ports by rising address: one address more. Assumes nothing.
-use Prim.Native.Nat.{ℕ, ◌+◌}
-use mathlib.Core.Path.{◌≡◌}
-use mathlib.Core.List.{◌++◌}
-use native.Mathlib.Numerals.{add-one}
+use Rattle.std.proofs.Common.{ℕ, ◌+◌, ◌≡◌, ◌++◌, add-one}
 use Rattle.model.specs.Layout.{Areas}
 use Rattle.port_text.specs.Report.{open_text, report_below}
 

@@ -1,8 +1,6 @@
 -- Document 01, "Numbers on either side": what a line of the port program's input says. Assumes nothing.
-use Rattle.std.specs.Prelude.{ℕ, Bool, true, false, cond, not, ◌&&◌, ◌||◌, List, [], eqb, leb, length, take, replicate}
+use Rattle.std.specs.Prelude.{ℕ, Bool, true, false, cond, not, ◌&&◌, ◌||◌, List, eqb, leb, length, take, replicate, Option, None, Some}
 use Rattle.std.proofs.lemmas.List.Edits.{sets}
-use Rattle.port_digits.specs.declared.Number.{Number}
-use Rattle.port_digits.specs.declared.Number.TheVariants.{Value, Malformed}
 use Rattle.port_digits.specs.Marks.{comma, semicolon, equals}
 use Rattle.port_digits.specs.Cut.{text_before, text_after, has, same}
 use Rattle.port_digits.specs.Read.{cut, Numbers, numbers_in, number_in, largest}
@@ -10,9 +8,8 @@ use Rattle.frames.specs.declared.Kind.{Kind}
 use Rattle.frames.specs.declared.Kind.TheVariants.{Master as MasterFrame, Slave as SlaveFrame}
 use Rattle.frames.specs.declared.Hearing.{Hearing}
 use Rattle.model.specs.Event.{padded}
-use Rattle.port_text.specs.declared.Frame.{Frame}
 use Rattle.port_text.specs.declared.Key.{Key}
-use Rattle.port_text.specs.declared.Key.TheVariants.{Addr, Fcode, Dir, Index, Master, Slave, Quiet, Write, Unknown}
+use Rattle.port_text.specs.declared.Key.TheVariants.{Addr, Fcode, Dir, Index, Master, Slave, Quiet, Write}
 use Rattle.port_text.specs.Words.{w_addr, w_fcode, w_dir, w_index, w_master, w_slave, w_quiet, w_write, w_sink, w_source}
 
 -- what a line says
@@ -28,21 +25,21 @@ pub data Line : Type 0 where
   malformed : Line
 
 -- the key is what stands before `=`, exactly
-unfoldable pub key_of : List ℕ → Key
+unfoldable pub key_of : List ℕ → Option Key
 key_of k =
-    cond (same k w_addr) Addr
-    (cond (same k w_fcode) Fcode
-    (cond (same k w_dir) Dir
-    (cond (same k w_index) Index
-    (cond (same k w_master) Master
-    (cond (same k w_slave) Slave (cond (same k w_quiet) Quiet (cond (same k w_write) Write Unknown)))))))
+    cond (same k w_addr) (Some Addr)
+    (cond (same k w_fcode) (Some Fcode)
+    (cond (same k w_dir) (Some Dir)
+    (cond (same k w_index) (Some Index)
+    (cond (same k w_master) (Some Master)
+    (cond (same k w_slave) (Some Slave) (cond (same k w_quiet) (Some Quiet) (cond (same k w_write) (Some Write) None)))))))
 
 -- ---- what stands after `=`
 
 -- a number alone
-abbrev pub numbered : (ℕ → Line) → Number → Line
-numbered f (Value n) = f n
-numbered f Malformed = malformed
+abbrev pub numbered : (ℕ → Line) → Option ℕ → Line
+numbered f (Some n) = f n
+numbered f None = malformed
 
 -- sink or source
 unfoldable pub dir_of : List ℕ → Line
@@ -78,25 +75,22 @@ unmarked kind ws n cs k =
 unfoldable pub hearing_of : Kind → List ℕ → List ℕ → Hearing
 hearing_of kind ws cs = unmarked kind (padded ws) (length ws) (sets (replicate 4 0) 0 cs) (length cs)
 
--- whether the line is well formed, and the frame that it says; one without words and check bytes where it is not
-abbrev pub read_as : Bool → Hearing → Frame
-read_as good h = record { good = good; hearing = h }
-
--- the frame of two lists, or the mark that they describe none
-unfoldable pub frame_read : Kind → Bool → ℕ → List ℕ → Frame
+-- the frame of two lists, or none where they describe none
+unfoldable pub frame_read : Kind → Bool → ℕ → List ℕ → Option Hearing
 frame_read kind one b v =
-    cond (is_frame_text one b v) (read_as true (hearing_of kind (first_list b v).values (second_list b v).values)) (read_as false (hearing_of kind [] []))
+    cond (is_frame_text one b v) (Some (hearing_of kind (first_list b v).values (second_list b v).values)) None
 
 -- the line of a frame that was read
-abbrev pub framed : Frame → Line
-framed f = cond f.good (frame f.hearing) malformed
+abbrev pub framed : Option Hearing → Line
+framed (Some h) = frame h
+framed None = malformed
 
 -- no port has more than sixteen words, so of the words of a write seventeen are kept: they fit no port, as more would not
 abbrev pub kept : List ℕ → List ℕ
 kept ws = take 17 ws
 
 -- an address and words; an address above its word is malformed
-abbrev pub written : Number → List ℕ → Line
+abbrev pub written : Option ℕ → List ℕ → Line
 written a ws = numbered (λ (n : ℕ). cond (leb n 65535) (write n ws) malformed) a
 
 -- an address, `;` and words
@@ -107,16 +101,16 @@ write_of v =
 
 -- `master=WORD,CHECK`, `slave=WORDS;CHECKS` and `write=ADDR;WORDS`. Opening takes words, so that of the addresses, F-codes and port numbers
 -- above 65,535 in setup lines the largest word is taken: it is out of range as they are
-unfoldable pub line_as : Key → List ℕ → Line
-line_as Addr v = numbered (λ (n : ℕ). addr (cut 65535 n)) (number_in v)
-line_as Fcode v = numbered (λ (n : ℕ). fcode (cut 65535 n)) (number_in v)
-line_as Dir v = dir_of v
-line_as Index v = numbered (λ (n : ℕ). index (cut 65535 n)) (number_in v)
-line_as Master v = framed (frame_read MasterFrame true comma v)
-line_as Slave v = framed (frame_read SlaveFrame false semicolon v)
-line_as Quiet v = numbered quiet (number_in v)
-line_as Write v = write_of v
-line_as Unknown v = malformed
+unfoldable pub line_as : Option Key → List ℕ → Line
+line_as (Some Addr) v = numbered (λ (n : ℕ). addr (cut 65535 n)) (number_in v)
+line_as (Some Fcode) v = numbered (λ (n : ℕ). fcode (cut 65535 n)) (number_in v)
+line_as (Some Dir) v = dir_of v
+line_as (Some Index) v = numbered (λ (n : ℕ). index (cut 65535 n)) (number_in v)
+line_as (Some Master) v = framed (frame_read MasterFrame true comma v)
+line_as (Some Slave) v = framed (frame_read SlaveFrame false semicolon v)
+line_as (Some Quiet) v = numbered quiet (number_in v)
+line_as (Some Write) v = write_of v
+line_as None v = malformed
 
 -- a line of the input: its key, `=` and its value
 unfoldable pub line_of : List ℕ → Line

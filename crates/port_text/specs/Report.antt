@@ -8,8 +8,8 @@ use Rattle.frames.specs.declared.Kind.TheVariants.{Silence, Noise, Master, Slave
 use Rattle.frames.specs.declared.Hearing.{Hearing}
 use Rattle.frames.specs.Hearing.{words_of}
 use Rattle.model.specs.declared.Faults.{Faults}
-use Rattle.model.specs.declared.Answer.{Answer}
-use Rattle.model.specs.declared.Answer.TheVariants.{Never, Good, Held, Stale, Refused}
+use Rattle.model.specs.Answer.{Answer}
+use Rattle.model.specs.Answer.{Never, Good, Held, Stale, Refused}
 use Rattle.model.specs.Layout.{Areas, entry, port_at, flags_of, marks_number}
 use Rattle.model.specs.Ports.{code_of}
 use Rattle.model.specs.Calls.{asked, fetched}

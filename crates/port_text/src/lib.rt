@@ -4,13 +4,11 @@
 // Promised for all inputs: what a line says is specs/Line.antt, what is printed specs/Report.antt. Output goes into a lent buffer of any
 // length: past its end bytes are counted and not stored. Nothing is asked of the caller. The lines `addr`, `fcode`, `dir` and `index` that
 // are printed of a port are read as its setup lines (proofs/Back.antt).
-#![tactic(auto)]
+#![tactic(auto, unfolding(crate::specs::Report::line_text, crate::specs::Report::refused_text, crate::specs::Report::open_text, crate::specs::Report::text_of_port, crate::specs::Report::report_below, crate::specs::Report::reply_text, port_digits::specs::Write::onto), using(port_digits::proofs::Pasting::then, model::proofs::Asking::asks_alone, crate::proofs::Ports::report_next))]
 
 pub mod line;
 pub mod report;
 pub mod say;
-
-use frames::Hearing;
 
 // What stands before the `=` of a line.
 #[derive(Clone, Copy)]
@@ -23,12 +21,4 @@ pub enum Key {
     Slave,
     Quiet,
     Write,
-    Unknown,
-}
-
-// A frame that a line describes, if the line is well formed.
-#[derive(Clone, Copy)]
-pub struct Frame {
-    pub good: bool,
-    pub hearing: Hearing,
 }

@@ -1,15 +1,16 @@
 // The open ports, eight lines for each.
 ghost use Rattle.std.specs.Prelude.{◌≡◌};
 ghost use Rattle.port_digits.specs.Write.{paper, onto};
+ghost use Rattle.model.specs.Answer.{answer_of};
 ghost use Rattle.areas.specs.Lent.{lent};
 ghost use Rattle.port_text.specs.Words.{w_dir, w_state, w_data};
 ghost use Rattle.port_text.specs.Report.{line_text, dir_text, state_text, data_text, setup_text, text_of_port, open_text, report};
 
 use crate::say;
 use areas::layout;
-use constants::CODE_UNIT;
+use constants::{CODE_UNIT, Refusal};
 use host_ports::calls;
-use model::Answer;
+use model::State;
 
 const ADDRESSES: u16 = 4096;
 
@@ -18,34 +19,36 @@ fn put_dir(out: &mut [u8], at: usize, sink: bool) -> usize
     ensures { paper out.new result ≡ onto (paper out.old at) (line_text w_dir (dir_text sink)) }
 {
     if sink {
-        return say::put_line(out, at, b"dir", b"sink");
+        say::put_line(out, at, b"dir", b"sink")
+    } else {
+        say::put_line(out, at, b"dir", b"source")
     }
-    say::put_line(out, at, b"dir", b"source")
 }
 
-// `state` never, good, held or stale.
-fn put_state(out: &mut [u8], at: usize, x: Answer) -> usize
-    ensures { paper out.new result ≡ onto (paper out.old at) (line_text w_state (state_text x)) }
+// `state` never, good, held or stale; asking an open port is never refused.
+fn put_state(out: &mut [u8], at: usize, answer: Result<State, Refusal>) -> usize
+    ensures { paper out.new result ≡
+        onto (paper out.old at) (line_text w_state (state_text (answer_of answer))) }
 {
-    match x {
-        Answer::Never => say::put_line(out, at, b"state", b"never"),
-        Answer::Good => say::put_line(out, at, b"state", b"good"),
-        Answer::Held => say::put_line(out, at, b"state", b"held"),
-        Answer::Stale => say::put_line(out, at, b"state", b"stale"),
-        Answer::Refused(_) => say::put_line(out, at, b"state", b""),
+    match answer {
+        Ok(State::Never) => say::put_line(out, at, b"state", b"never"),
+        Ok(State::Good) => say::put_line(out, at, b"state", b"good"),
+        Ok(State::Held) => say::put_line(out, at, b"state", b"held"),
+        Ok(State::Stale) => say::put_line(out, at, b"state", b"stale"),
+        Err(_) => say::put_line(out, at, b"state", b""),
     }
 }
 
 // `data` the words, or the word none when never.
-fn put_data(out: &mut [u8], at: usize, x: Answer, ws: &[u16]) -> usize
-    ensures { paper out.new result ≡ onto (paper out.old at) (line_text w_data (data_text x ws.now)) }
+fn put_data(out: &mut [u8], at: usize, answer: Result<State, Refusal>, words: &[u16]) -> usize
+    ensures { paper out.new result ≡
+        onto (paper out.old at) (line_text w_data (data_text (answer_of answer) words.now)) }
 {
-    match x {
-        Answer::Never => say::put_line(out, at, b"data", b"none"),
-        Answer::Good => say::put_listed(out, at, b"data", ws),
-        Answer::Held => say::put_listed(out, at, b"data", ws),
-        Answer::Stale => say::put_listed(out, at, b"data", ws),
-        Answer::Refused(_) => say::put_listed(out, at, b"data", ws),
+    match answer {
+        Ok(State::Never) => say::put_line(out, at, b"data", b"none"),
+        Ok(State::Good | State::Held | State::Stale) | Err(_) => say::put_listed(
+            out, at, b"data", words,
+        ),
     }
 }
 
@@ -60,11 +63,11 @@ fn put_setup(out: &mut [u8], at: usize, a: u16, code: u16, sink: bool, p: u16) -
 }
 
 // The eight lines of port p at address a.
-fn put_port<'a>(
+fn put_port(
     index: &[u16],
     ports: &[u16],
-    page0: &'a [u16],
-    page1: &'a [u16],
+    page0: &[u16],
+    page1: &[u16],
     out: &mut [u8],
     at: usize,
     a: u16,
@@ -87,11 +90,11 @@ fn put_port<'a>(
 }
 
 // The port at address a, if one is open.
-fn put_open<'a>(
+fn put_open(
     index: &[u16],
     ports: &[u16],
-    page0: &'a [u16],
-    page1: &'a [u16],
+    page0: &[u16],
+    page1: &[u16],
     out: &mut [u8],
     at: usize,
     a: u16,
@@ -100,19 +103,19 @@ fn put_open<'a>(
         onto (paper out.old at) (open_text (lent index.entry ports.entry page0.entry page1.entry) a) }
 {
     let p = layout::get(index, a as usize);
-    let none = p == 0;
-    if none {
-        return at;
+    if p == 0 {
+        at
+    } else {
+        put_port(index, ports, page0, page1, out, at, a, p)
     }
-    put_port(index, ports, page0, page1, out, at, a, p)
 }
 
 // Every open port, by rising address.
-pub fn put_report<'a>(
+pub fn put_report(
     index: &[u16],
     ports: &[u16],
-    page0: &'a [u16],
-    page1: &'a [u16],
+    page0: &[u16],
+    page1: &[u16],
     out: &mut [u8],
     at: usize,
 ) -> usize
@@ -120,10 +123,8 @@ pub fn put_report<'a>(
         onto (paper out.old at) (report (lent index.entry ports.entry page0.entry page1.entry)) }
 {
     let mut p = at;
-    let mut a: u16 = 0;
-    while a < ADDRESSES {
+    for a in 0..ADDRESSES {
         p = put_open(index, ports, page0, page1, out, p, a);
-        a += 1;
     }
     p
 }

@@ -15,7 +15,8 @@ fn put_key(out: &mut [u8], at: usize, key: &[u8]) -> usize
     write::put(out, a, b'=')
 }
 
-// A line `key=value`.
+// A line `key=value`. Here and in the two below only what writes the value differs; one writer that takes it as a closure is no plainer, since
+// its contract would have to say what any closure writes into the buffer and which place it answers.
 pub fn put_line(out: &mut [u8], at: usize, key: &[u8], value: &[u8]) -> usize
     ensures { paper out.new result ≡ onto (paper out.old at) (line_text key.now value.now) }
 {
@@ -50,31 +51,10 @@ pub fn put_refused(out: &mut [u8], at: usize, n: u16) -> usize
 }
 
 // The first n words, as far as there are any.
-fn front<'a>(ws: &'a [u16], n: usize) -> &'a [u16]
+fn front(ws: &[u16], n: usize) -> &[u16]
     ensures { result.now ≡ take n ws.now }
 {
-    if n < ws.len() {
-        return &ws[..n];
-    }
-    ws
-}
-
-fn wide(x: u8) -> u16
-    ensures { result ≡ x }
-{
-    x as u16
-}
-
-// Four bytes as words.
-fn words_of(bytes: [u8; 4]) -> [u16; 4]
-    ensures { result ≡ bytes }
-{
-    [
-        wide(bytes[0]),
-        wide(bytes[1]),
-        wide(bytes[2]),
-        wide(bytes[3]),
-    ]
+    &ws[..n.min(ws.len())]
 }
 
 // `reply=WORDS;CHECKS`.
@@ -82,8 +62,7 @@ fn put_frame(out: &mut [u8], at: usize, h: Hearing) -> usize
     ensures { paper out.new result ≡ onto (paper out.old at) (spoken_text Slave h) }
 {
     let words = h.words;
-    let bytes = h.checks;
-    let checks = words_of(bytes);
+    let checks = h.checks.map(u16::from);
     let a = put_key(out, at, b"reply");
     let b = write::put_list(out, a, front(&words, h.size));
     let c = write::put(out, b, b';');
@@ -95,11 +74,8 @@ fn put_frame(out: &mut [u8], at: usize, h: Hearing) -> usize
 pub fn put_reply(out: &mut [u8], at: usize, h: Hearing) -> usize
     ensures { paper out.new result ≡ onto (paper out.old at) (reply_text h) }
 {
-    let kind = h.kind;
-    match kind {
-        Kind::Silence => at,
-        Kind::Noise => at,
-        Kind::Master => at,
+    match h.kind {
+        Kind::Silence | Kind::Noise | Kind::Master => at,
         Kind::Slave => put_frame(out, at, h),
     }
 }

@@ -1,17 +1,8 @@
 -- The lines of an input as a run: a line that is not refused is its call, accepted, and the controller and areas that it leaves are those
 -- after the past with this call. Assumes nothing.
-use Prim.Native.Nat.{ℕ}
-use mathlib.Core.Path.{◌≡◌, refl, sym, ◌∙◌, ap}
-use mathlib.Core.Bool.{Bool, true, false, cond, ◌&&◌}
-use mathlib.Core.List.{List, [], ◌∷◌, ◌++◌, append-nil}
-use mathlib.Core.Option.{Option, none, some}
-use native.Mathlib.Omega.{arith}
-use lib.Dec.{eqb, leb, ltb}
-use lib.ListN.{length, replicate}
-use lib.Seq.{length-sets}
+use Rattle.std.proofs.Common.{ℕ, ◌≡◌, refl, sym, ◌∙◌, ap, Bool, true, false, cond, ◌&&◌, List, [], ◌∷◌, ◌++◌, append-nil, Option, None, Some, arith, eqb, leb, ltb, length, replicate}
+use Rattle.std.proofs.Math.Seq.{length-sets}
 use Rattle.host_ports.specs.Host.{port_areas}
-use Rattle.port_digits.specs.declared.Number.{Number}
-use Rattle.port_digits.specs.declared.Number.TheVariants.{Value, Malformed}
 use Rattle.port_digits.specs.Marks.{comma, semicolon, equals}
 use Rattle.port_digits.specs.Cut.{text_before, text_after, has, same}
 use Rattle.port_digits.specs.Read.{number_in}
@@ -22,13 +13,15 @@ use Rattle.model.specs.Calls.{Call, hear, quiet, refusal, step, effect, answer, 
 use Rattle.model.specs.Past.{after, Typed, Accepted, happening}
 use Rattle.model.proofs.Demands.{reply_told_lem}
 use Rattle.port_text.specs.declared.Key.{Key}
-use Rattle.port_text.specs.declared.Key.TheVariants.{Addr, Fcode, Dir, Index, Master, Slave, Quiet, Write, Unknown}
+use Rattle.port_text.specs.declared.Key.TheVariants.{Addr, Fcode, Dir, Index, Master, Slave, Quiet, Write}
 use Rattle.port_text.specs.Words.{w_sink, w_source}
 use Rattle.port_text.specs.Report.{reply_text}
 use Rattle.port_text.specs.Line.{Line, addr, fcode, index, dir, frame, quiet as quiet_line, write, malformed, numbered, dir_of, hearing_of}
-use Rattle.port_text.specs.Line.{frame_read, first_list, second_list, below, is_frame_text, read_as, framed, kept, written, write_of, line_as, key_of, line_of}
+use Rattle.port_text.specs.Line.{frame_read, first_list, second_list, below, is_frame_text, framed, kept, written, write_of, line_as, key_of, line_of}
 use Rattle.port_line.specs.declared.Setup.{Setup}
-use Rattle.port_line.specs.Meaning.{State, state, Step, step_with, misplaced, setup, whole, answered, hosted, meaning}
+use Rattle.port_line.specs.declared.Stage.{Stage}
+use Rattle.port_line.specs.declared.Stage.TheVariants.{Address, Code, Direction, Port, Events}
+use Rattle.port_line.specs.Meaning.{State, state, Step, step_with, misplaced, setup, due, whole, answered, hosted, meaning}
 use Rattle.port_run.specs.Printed.{line_in}
 use Rattle.port_told.specs.Told.{call_in, added, line_refusal, setup_after, reply_said, replies_told}
 
@@ -36,14 +29,14 @@ use Rattle.port_told.specs.Told.{call_in, added, line_refusal, setup_after, repl
 
 -- what the types say of a call, if there is one
 abbrev pub TypedIn : Option Call → Type 0
-TypedIn none = Unit
-TypedIn (some c) = Typed c
+TypedIn None = Unit
+TypedIn (Some c) = Typed c
 
 module _ (u : Setup) where
   -- of a number alone no line is a frame
-  typed_numbered : (f : ℕ → Line) → ((n : ℕ) → TypedIn (call_in (f n) u)) → (n : Number) → TypedIn (call_in (numbered f n) u)
-  typed_numbered f h (Value n) = h n
-  typed_numbered f h Malformed = tt
+  typed_numbered : (f : ℕ → Line) → ((n : ℕ) → TypedIn (call_in (f n) u)) → (n : Option ℕ) → TypedIn (call_in (numbered f n) u)
+  typed_numbered f h (Some n) = h n
+  typed_numbered f h None = tt
 
   typed_cond : (b : Bool) (x y : Line) → TypedIn (call_in x u) → TypedIn (call_in y u) → TypedIn (call_in (cond b x y) u)
   typed_cond true x y p q = p
@@ -64,27 +57,27 @@ module _ (u : Setup) where
       checks = (second_list b v).values
 
       go : (e : Bool)
-          → TypedIn (call_in (framed (cond e (read_as true (hearing_of kind words checks)) (read_as false (hearing_of kind [] [])))) u)
+          → TypedIn (call_in (framed (cond e (Some (hearing_of kind words checks)) None)) u)
       go true = (sixteen kind words checks, sixteen kind words checks)
       go false = tt
 
-  typed_written : (a : Number) (ws : List ℕ) → TypedIn (call_in (written a ws) u)
+  typed_written : (a : Option ℕ) (ws : List ℕ) → TypedIn (call_in (written a ws) u)
   typed_written a ws = typed_numbered _ (λ n. typed_cond (leb n 65535) (write n ws) malformed tt tt) a
 
-  typed_as : (k : Key) (v : List ℕ) → TypedIn (call_in (line_as k v) u)
+  typed_as : (k : Option Key) (v : List ℕ) → TypedIn (call_in (line_as k v) u)
   unfolding line_as dir_of write_of
-  typed_as Addr v = typed_numbered _ (λ n. tt) (number_in v)
-  typed_as Fcode v = typed_numbered _ (λ n. tt) (number_in v)
-  typed_as Dir v = typed_cond (same v w_sink) _ _ tt (typed_cond (same v w_source) _ _ tt tt)
-  typed_as Index v = typed_numbered _ (λ n. tt) (number_in v)
-  typed_as Master v = typed_framed MasterFrame true comma v
-  typed_as Slave v = typed_framed SlaveFrame false semicolon v
-  typed_as Quiet v = typed_numbered _ (λ n. tt) (number_in v)
-  typed_as Write v =
+  typed_as (Some Addr) v = typed_numbered _ (λ n. tt) (number_in v)
+  typed_as (Some Fcode) v = typed_numbered _ (λ n. tt) (number_in v)
+  typed_as (Some Dir) v = typed_cond (same v w_sink) _ _ tt (typed_cond (same v w_source) _ _ tt tt)
+  typed_as (Some Index) v = typed_numbered _ (λ n. tt) (number_in v)
+  typed_as (Some Master) v = typed_framed MasterFrame true comma v
+  typed_as (Some Slave) v = typed_framed SlaveFrame false semicolon v
+  typed_as (Some Quiet) v = typed_numbered _ (λ n. tt) (number_in v)
+  typed_as (Some Write) v =
       let a = number_in (text_before semicolon v) in
       let ws = kept (second_list semicolon v).values in
       typed_cond (has semicolon v && below 65535 (second_list semicolon v)) (written a ws) malformed (typed_written a ws) tt
-  typed_as Unknown v = tt
+  typed_as None v = tt
 
   typed_line : (t : List ℕ) → TypedIn (call_in (line_of t) u)
   unfolding line_of
@@ -133,7 +126,7 @@ module _ (u : Setup) (past : List Call) (run : Accepted past) where
 
   -- an event and quiet time
   on_bus_lem : (c : Call) → Typed c → reply_text (spoken (answer c (after past))) ≡ reply_said past (happening c)
-      → Does past (c ∷ past) (refusal c (after past)) (setup 4 u.addr u.code u.sink) (answered (outcome c (after past)) u)
+      → Does past (c ∷ past) (refusal c (after past)) (setup Events u.addr u.code u.sink) (answered (outcome c (after past)) u)
   unfolding outcome after replies_told reply_text silent
   on_bus_lem c typed spoke =
       record {
@@ -143,7 +136,7 @@ module _ (u : Setup) (past : List Call) (run : Accepted past) where
       }
 
   -- a call of the host's on ports, in which the controller plays no part
-  on_ports : (c : Call) (stage : ℕ) → Typed c → reply_said past (happening c) ≡ []
+  on_ports : (c : Call) (stage : Stage) → Typed c → reply_said past (happening c) ≡ []
       → port_refusal c (after past).areas ≡ refusal c (after past)
       → world (after past).controller (step c (fresh_over (after past).areas)).areas ≡ step c (after past)
       → Does past (c ∷ past) (refusal c (after past)) (setup stage u.addr u.code u.sink) (hosted c stage before)
@@ -162,12 +155,12 @@ module _ (u : Setup) (past : List Call) (run : Accepted past) where
   pub line_does : (l : Line) → TypedIn (call_in l u)
       → Does past (added (call_in l u) past) (line_refusal l u past) (setup_after l u) (meaning l before)
   unfolding meaning port_refusal refusal step effect answer reply_text silent
-  line_does (addr n) typed = placed (eqb u.stage 0) _ (described (setup 1 n u.code u.sink))
-  line_does (fcode n) typed = placed (eqb u.stage 1) _ (described (setup 2 u.addr n u.sink))
-  line_does (dir sink) typed = placed (eqb u.stage 2) _ (described (setup 3 u.addr u.code sink))
-  line_does (index n) typed = placed (eqb u.stage 3) _ (on_ports _ 0 typed refl refl refl)
+  line_does (addr n) typed = placed (due Address u) _ (described (setup Code n u.code u.sink))
+  line_does (fcode n) typed = placed (due Code u) _ (described (setup Direction u.addr n u.sink))
+  line_does (dir sink) typed = placed (due Direction u) _ (described (setup Port u.addr u.code sink))
+  line_does (index n) typed = placed (due Port u) _ (on_ports _ Address typed refl refl refl)
   line_does (frame h) typed =
       placed (whole u) _ (on_bus_lem (hear h h) typed (ap (λ (r : Option (List ℕ)). reply_text (spoken r)) (reply_told_lem past run h h)))
   line_does (quiet_line n) typed = placed (whole u) _ (on_bus_lem (quiet n) typed refl)
-  line_does (write a ws) typed = placed (whole u) _ (on_ports _ 4 typed refl refl refl)
+  line_does (write a ws) typed = placed (whole u) _ (on_ports _ Events typed refl refl refl)
   line_does malformed typed = out_of_place past

@@ -1,15 +1,7 @@
 -- DEMANDS 2 AND 3 AT THE PORT PROGRAM. The lines of an input make a run of accepted calls, and what is printed is what the past of these
 -- calls tells: the replies, and of each open port the eight lines with the words that filled it last. Assumes nothing.
-use Prim.Native.Nat.{ℕ, zero, suc, ◌%◌}
-use mathlib.Core.Path.{◌≡◌, refl, sym, ◌∙◌, ap}
-use mathlib.Core.Bool.{Bool, true, false, cond}
-use mathlib.Core.List.{List, [], ◌∷◌, ◌++◌, append_assoc}
-use mathlib.Core.Option.{Option, none, some}
-use native.Mathlib.Omega.{arith}
-use borrow.Author.Tests.{eqb-true, eq-eqb, ne_eqb}
-use lib.Dec.{eqb}
-use lib.ListN.{length}
-use Rattle.model.specs.declared.Answer.{Answer}
+use Rattle.std.proofs.Common.{ℕ, zero, suc, ◌%◌, ◌≡◌, refl, sym, ◌∙◌, ap, Bool, true, false, cond, List, [], ◌∷◌, ◌++◌, append_assoc, Option, None, Some, arith, eqb-true, eq-eqb, ne_eqb, eqb, length}
+use Rattle.model.specs.Answer.{Answer}
 use Rattle.model.specs.declared.Words.{Words}
 use Rattle.model.specs.declared.Faults.{Faults}
 use Rattle.model.specs.Layout.{Areas, entry, port_at, flags_of}
@@ -44,18 +36,18 @@ module _ (w : Words) (unsupervised : w.limit ≡ 0) (ws : List ℕ) where
   never_old : too_old w.limit w.age ≡ false
   never_old = rw (eq-eqb w.limit 0 unsupervised)
 
-  said : Said (state_of w) (is_held (flags_of w.flags).faults) (cond (flags_of w.flags).ever (some ws) none)
+  said : Said (state_of w) (is_held (flags_of w.flags).faults) (cond (flags_of w.flags).ever (Some ws) None)
   unfolding state_of
   said = rw never_old (go (flags_of w.flags).ever (is_held (flags_of w.flags).faults))
     where
-      go : (e h : Bool) → Said (state_by e h false) h (cond e (some ws) none)
+      go : (e h : Bool) → Said (state_by e h false) h (cond e (Some ws) None)
       go true true = (refl, refl)
       go true false = (refl, refl)
       go false h = (refl, refl)
 
 -- of a port that stands open, by the words that filled it
 module _ (m : Areas) (shape : Shape m) (a : ℕ) (o : Opening) (free : o.limit ≡ 0) (l : List (List ℕ))
-    (stands : standing m a ≡ some (standing_with o (last_of l) (length l % 65536))) where
+    (stands : standing m a ≡ Some (standing_with o (last_of l) (length l % 65536))) where
   -- the port's own words
   abbrev words : Words
   words = port_at m (entry m a)
@@ -95,8 +87,8 @@ module _ (past : List Call) (run : Accepted past) (free : Unsupervised past) whe
   port_told a = go (opening_of past a) refl ((past_told past run).holds.stands a)
     where
       go : (o : Option Opening) → opening_of past a ≡ o → standing m a ≡ told_standing past a o → open_text m a ≡ told_of_port past a o
-      go none i e = rw (eq-eqb (entry m a) 0 (none_entry m a (past_told past run).holds.shape e))
-      go (some o) i e =
+      go None i e = rw (eq-eqb (entry m a) 0 (none_entry m a (past_told past run).holds.shape e))
+      go (Some o) i e =
           let here : entry m a ≡ o.port = sym (standing_at_lem m a _ e).port in
           standing_said m (past_told past run).holds.shape a o (free a o i) (fillings past a o) e
           ∙ ap (λ (f : Faults). lines_told f a o (fillings past a o))
@@ -104,12 +96,12 @@ module _ (past : List Call) (run : Accepted past) (free : Unsupervised past) whe
 
   -- Of an open sink: the words of the last sound slave frame that answered its master frame since it was opened, or that there was none; its
   -- fills are the number of these frames.
-  pub sink_told : (a : ℕ) (o : Opening) → opening_of past a ≡ some o → o.sink ≡ true
+  pub sink_told : (a : ℕ) (o : Opening) → opening_of past a ≡ Some o → o.sink ≡ true
       → open_text m a ≡ lines_told (faults_since past a o.word) a o (answers_since past a o.word)
   sink_told a o e sink = port_told a ∙ rw (e, sink)
 
   -- Of an open source: the words that the host last wrote to it since it was opened, or that there were none.
-  pub source_told_lem : (a : ℕ) (o : Opening) → opening_of past a ≡ some o → o.sink ≡ false
+  pub source_told_lem : (a : ℕ) (o : Opening) → opening_of past a ≡ Some o → o.sink ≡ false
       → open_text m a ≡ lines_told no_faults a o (writes_since past a)
   source_told_lem a o e source = port_told a ∙ rw (e, source)
 
@@ -134,7 +126,7 @@ line_free (dir sink) u past free = free
 line_free (index n) u past free = λ a o. go (eqb u.addr a) a o
   where
     go : (b : Bool) (a : ℕ) (o : Opening)
-        → leaves (cond b (opens (opening u.addr n u.code u.sink 0 0)) keeps) (opening_of past a) ≡ some o → o.limit ≡ 0
+        → leaves (cond b (opens (opening u.addr n u.code u.sink 0 0)) keeps) (opening_of past a) ≡ Some o → o.limit ≡ 0
     go true a o e =
         let same : opening u.addr n u.code u.sink 0 0 ≡ o = cc in
         sym (ap (λ (x : Opening). x.limit) same)
@@ -143,7 +135,7 @@ line_free (frame h) u past free = free
 line_free (quiet_line n) u past free = free
 line_free (write b ws) u past free = λ a o. go (eqb b a) a o
   where
-    go : (k : Bool) (a : ℕ) (o : Opening) → leaves (cond k (writes ws) keeps) (opening_of past a) ≡ some o → o.limit ≡ 0
+    go : (k : Bool) (a : ℕ) (o : Opening) → leaves (cond k (writes ws) keeps) (opening_of past a) ≡ Some o → o.limit ≡ 0
     go true a o e = free a o e
     go false a o e = free a o e
 line_free malformed u past free = free
@@ -153,8 +145,8 @@ line_undamaged : (l : Line) (u : Setup) (past : List Call) → Accepted past →
 line_undamaged l u past run = go (in_place l u) (call_in l u)
   where
     go : (b : Bool) (c : Option Call) → cond b (call_refusal c past) 7 ≡ 6 → ⊥
-    go true none e = omega arith
-    go true (some c) e = never_damaged past run c e
+    go true None e = omega arith
+    go true (Some c) e = never_damaged past run c e
     go false c e = omega arith
 
 end_undamaged : (b : Bool) → cond {A = ℕ} b 0 7 ≡ 6 → ⊥
@@ -196,13 +188,13 @@ lines_told_lem room (t ∷ ts) u past run free =
 
     go : (b : Bool) → eqb number 0 ≡ b → (Accepted made → Printed room ts (setup_after l u) made) → Printed room (t ∷ ts) u past
     go true e rest =
-        let none : x.refusal ≡ 0 = does.number ∙ eqb-true number 0 e in
-        let m = does.makes none in
+        let None : x.refusal ≡ 0 = does.number ∙ eqb-true number 0 e in
+        let m = does.makes None in
         record {
           all = rw e (rest m.all).all;
           free = rw e (rest m.all).free;
           undamaged = rw e (rest m.all).undamaged;
-          text = rw (none, e) (sym (append_assoc (replies_told past) x.said _) ∙ rw (m.said, m.left) (rest m.all).text);
+          text = rw (None, e) (sym (append_assoc (replies_told past) x.said _) ∙ rw (m.said, m.left) (rest m.all).text);
         }
     go false e rest =
         let mute = does.mute (ap (λ (n : ℕ). eqb n 0) does.number ∙ e) in

@@ -82,14 +82,15 @@ one_byte ws h =
 parted : (x a m : ℕ) → a < 256 → x ≡ a + 256 * m → (x % 256 ≡ a) × (x / 256 ≡ m)
 parted x a m h e = (omega arith, omega arith)
 
--- the check bytes of a frame, taken apart from the number that they are joined to
+-- the check bytes of a frame are the bytes of the number that they are joined to, the lowest first
 pub taken_apart : (ws : List ℕ) (x : ℕ) → x ≡ joined_bytes ws
-    → x % 256 ∷ x / 256 % 256 ∷ x / 256 / 256 % 256 ∷ x / 256 / 256 / 256 % 256 ∷ []
+    → x % 256 ∷ x / 256 % 256 ∷ x / 65536 % 256 ∷ x / 16777216 % 256 ∷ []
     ≡ byte_at ws 0 ∷ byte_at ws 1 ∷ byte_at ws 2 ∷ byte_at ws 3 ∷ []
 taken_apart ws x e =
     let first = parted x _ _ (byte_lt ws 0) e in
     let second = parted (x / 256) _ _ (byte_lt ws 1) first.1 in
     let third = parted (x / 256 / 256) _ _ (byte_lt ws 2) second.1 in
     let b = byte_lt ws 3 in
-    let fourth : x / 256 / 256 / 256 % 256 ≡ byte_at ws 3 = omega (arith, third.1) in
-    rw (first.0, second.0, third.0, fourth)
+    let third_byte : x / 65536 % 256 ≡ byte_at ws 2 = omega (arith, third.0) in
+    let fourth_byte : x / 16777216 % 256 ≡ byte_at ws 3 = omega (arith, third.1) in
+    rw (first.0, second.0, third_byte, fourth_byte)

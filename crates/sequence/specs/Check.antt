@@ -1,12 +1,12 @@
 -- Document 01, "Check sequence and frame sizes": the check byte of a block of words. The interface is `check_of` and `block_check`.
 -- A polynomial over the two-element field is the number whose binary digits are its coefficients: its + is bit_xor, and times x is
 -- times 2. Specs/Remainder.antt says what a remainder is without a division. Assumes nothing.
-use Rattle.std.specs.Prelude.{ℕ, zero, suc, ◌+◌, ◌-◌, ◌*◌, ◌/◌, ◌%◌, ◌^◌, Bool, cond, ◌&&◌, List, [], ◌∷◌, ltb, leb, length}
-use Rattle.std.proofs.Math.Option.{Option, none, some}
+use Rattle.std.specs.Prelude.{ℕ, zero, suc, ◌+◌, ◌-◌, ◌*◌, ◌/◌, ◌%◌, ◌^◌, Bool, cond, ◌&&◌, List, [], ◌∷◌, ltb, leb, length, Option, None, Some, Result, Ok, Err}
 use Rattle.std.specs.Int.Bits.{bit_xor}
 use Rattle.std.specs.Int.Count.{ones}
-use Rattle.sequence.specs.declared.BlockCheck.{BlockCheck}
-use Rattle.sequence.specs.declared.BlockCheck.TheVariants.{Byte, Range}
+use Rattle.constants.specs.declared.refusals.Refusal.{Refusal}
+use Rattle.constants.specs.declared.refusals.Refusal.TheVariants.{Range}
+use Rattle.constants.specs.Refusal.{number}
 
 -- G(x) = x^7 + x^6 + x^5 + x^2 + 1
 abbrev pub G : ℕ
@@ -51,11 +51,11 @@ check_of ws = 255 - (remainder ws * 2 + parity ws)
 abbrev pub is_block : List ℕ → Bool
 is_block ws = ltb 0 (length ws) && leb (length ws) 4
 
--- document 01's number and value for each answer: no refusal and the byte, or 2 RANGE
-abbrev pub block_says : BlockCheck → ℕ × Option ℕ
-block_says (Byte b) = (0, some b)
-block_says Range = (2, none)
+-- what is said of a block: its check byte; and of what is none, 2 RANGE
+abbrev pub block_check : List ℕ → Result ℕ Refusal
+block_check ws = cond (is_block ws) (Ok (check_of ws)) (Err Range)
 
--- what is said of a block, and of what is none
-abbrev pub block_check : List ℕ → ℕ × Option ℕ
-block_check ws = cond (is_block ws) (0, some (check_of ws)) (2, none)
+-- document 01's number and value for each answer: no refusal and the byte, or the refusal's number
+abbrev pub block_says : Result ℕ Refusal → ℕ × Option ℕ
+block_says (Ok b) = (0, Some b)
+block_says (Err e) = (number e, None)

@@ -7,14 +7,14 @@
 // src/table.rt.
 #![tactic(auto)]
 
-ghost use Rattle.std.specs.Prelude.{◌≡◌, min};
-ghost use Rattle.sequence.specs.Check.{check_of, block_says, block_check};
+ghost use Rattle.std.specs.Prelude.{◌≡◌};
+ghost use Rattle.sequence.specs.Check.{check_of, block_check};
 ghost use Rattle.sequence.specs.Frame.{blocks, byte_at, frame_checks};
 ghost use Rattle.sequence.specs.Joined.{joined_bytes};
-ghost use Rattle.sequence.specs.Steps.{StepTable};
 
 mod table;
 
+use constants::Refusal;
 pub use table::step_at;
 
 // The words of a full block, the words of the longest frame.
@@ -22,15 +22,9 @@ const BLOCK: usize = 4;
 
 const LONGEST: usize = 16;
 
-// The check byte of a block, or that the block has no words or more than four.
-#[derive(Drop)]
-pub enum BlockCheck {
-    Byte(u8),
-    Range,
-}
-
 // The check bytes of a frame, as many as `count` says; the others are 0. A frame with no words or more than sixteen has none.
-#[derive(Drop)]
+// An array and a number: there is no heap, and this is what C is handed.
+#[derive(Clone, Copy)]
 pub struct FrameChecks {
     pub count: usize,
     pub bytes: [u8; 4],
@@ -38,35 +32,27 @@ pub struct FrameChecks {
 
 // The check byte of all the words. Words joined by xor have as many ones as all of them together, but for an even number: so one count of
 // ones gives the parity, and no number of words is too many.
-fn check(steps: &[u8; 256], words: &[u16]) -> u8
-    requires { StepTable steps.now }
+fn check(words: &[u16]) -> u8
     ensures { result ≡ check_of words.now }
 {
     let mut r: u8 = 0;
     let mut all: u16 = 0;
-    let mut i: usize = 0;
-    while i < words.len() {
-        let w = words[i];
-        r = table::push_word(steps, r, w);
+    for &w in words {
+        r = table::push_word(r, w);
         all ^= w;
-        i += 1;
     }
-    let p = u16::count_ones(all ^ (r as u16)) % 2;
+    let p = (all ^ (r as u16)).count_ones() % 2;
     !((r << 1) | (p as u8))
 }
 
-// The check byte of a block.
-pub fn block_check(words: &[u16]) -> BlockCheck
-    ensures { block_says result ≡ block_check words.now }
+// The check byte of a block, which has one to four words.
+pub fn block_check(words: &[u16]) -> Result<u8, Refusal>
+    ensures { result ≡ block_check words.now }
 {
-    let n = words.len();
-    if n == 0 {
-        return BlockCheck::Range;
+    if words.is_empty() || BLOCK < words.len() {
+        return Err(Refusal::Range);
     }
-    if BLOCK < n {
-        return BlockCheck::Range;
-    }
-    BlockCheck::Byte(check(&table::steps(), words))
+    Ok(check(words))
 }
 
 // How many blocks a frame of n words has: none where no frame has n words.
@@ -76,22 +62,14 @@ pub fn block_count(n: usize) -> usize
     if n <= LONGEST { (n + 3) / BLOCK } else { 0 }
 }
 
-fn lesser(a: usize, b: usize) -> usize
-    ensures { result ≡ min a b }
-{
-    if a < b { a } else { b }
-}
-
 // The check byte of block k, 0 where the frame has no such block.
-fn byte_at(steps: &[u8; 256], words: &[u16], k: usize) -> u8
-    requires { StepTable steps.now }
+fn byte_at(words: &[u16], k: usize) -> u8
     ensures { result ≡ byte_at words.now k }
 {
-    let n = words.len();
-    if k < block_count(n) {
+    if k < block_count(words.len()) {
         let from = BLOCK * k;
-        let end = lesser(from + BLOCK, n);
-        check(steps, &words[from..end])
+        let end = (from + BLOCK).min(words.len());
+        check(&words[from..end])
     } else {
         0
     }
@@ -102,14 +80,13 @@ fn byte_at(steps: &[u8; 256], words: &[u16], k: usize) -> u8
 fn bytes_joined(words: &[u16]) -> u32
     ensures { result ≡ joined_bytes words.now }
 {
-    let steps = table::steps();
-    let first = byte_at(&steps, words, 0) as u32;
+    let first = byte_at(words, 0) as u32;
     if words.len() <= BLOCK {
         return first;
     }
-    let second = byte_at(&steps, words, 1) as u32;
-    let third = byte_at(&steps, words, 2) as u32;
-    let fourth = byte_at(&steps, words, 3) as u32;
+    let second = byte_at(words, 1) as u32;
+    let third = byte_at(words, 2) as u32;
+    let fourth = byte_at(words, 3) as u32;
     first + 256 * (second + 256 * (third + 256 * fourth))
 }
 
@@ -117,17 +94,8 @@ fn bytes_joined(words: &[u16]) -> u32
 pub fn frame_checks(words: &[u16]) -> FrameChecks
     ensures { result ≡ frame_checks words.now }
 {
-    let joined = bytes_joined(words);
-    let above_first = joined / 256;
-    let above_second = above_first / 256;
-    let above_third = above_second / 256;
     FrameChecks {
         count: block_count(words.len()),
-        bytes: [
-            (joined % 256) as u8,
-            (above_first % 256) as u8,
-            (above_second % 256) as u8,
-            (above_third % 256) as u8,
-        ],
+        bytes: bytes_joined(words).to_le_bytes(),
     }
 }

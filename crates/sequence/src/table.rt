@@ -8,7 +8,7 @@ ghost use Rattle.sequence.specs.Check.{pushes};
 ghost use Rattle.sequence.specs.Steps.{step_of, StepTable};
 
 // An entry a line, its number beside it.
-const STEP: [u8; 256] = [
+static STEP: [u8; 256] = [
     0x00, // 00
     0x65, // 01
     0x2f, // 02
@@ -267,43 +267,45 @@ const STEP: [u8; 256] = [
     0x21, // ff
 ];
 
-// The table, to be lent to all the steps of a call: a function that reads a constant array itself stores it anew each time.
-pub(crate) fn steps() -> [u8; 256]
-    ensures { StepTable result }
+// The table, where it lies.
+fn steps() -> &'static [u8; 256]
+    ensures { StepTable result.now }
 {
-    STEP
+    &STEP
 }
 
-// Entry i of a table that is lent.
-fn step(steps: &[u8; 256], i: usize) -> u8
-    requires { StepTable steps.now × (i < 256) }
+// Entry i of the table.
+fn step(i: usize) -> u8
+    requires { i < 256 }
     ensures { result ≡ step_of i }
 {
-    steps[i]
+    steps()[i]
 }
 
 // Entry i of the table, for whoever lists it.
 pub fn step_at(i: u8) -> u8
     ensures { result ≡ step_of i }
 {
-    step(&steps(), i as usize)
+    step(i as usize)
 }
 
 // The eight bits of a byte, the most significant first: one step. The entry's number is computed as an index: in a byte it would have to be cut
 // again before each step.
-fn push_byte(steps: &[u8; 256], r: u8, b: u8) -> u8
-    requires { StepTable steps.now × (r < 128) }
-    ensures { (result ≡ pushes 8 r b) × (result < 128) }
+fn push_byte(r: u8, b: u8) -> u8
+    requires { r < 128 }
+    ensures pushed { result ≡ pushes 8 r b }
+    ensures small { result < 128 }
 {
-    step(steps, ((r as usize) * 2) ^ (b as usize))
+    step(((r as usize) * 2) ^ (b as usize))
 }
 
 // The sixteen bits of a word, the most significant first: its high byte, then its low byte.
-pub(crate) fn push_word(steps: &[u8; 256], r: u8, w: u16) -> u8
-    requires { StepTable steps.now × (r < 128) }
-    ensures { (result ≡ pushes 16 r w) × (result < 128) }
+pub(crate) fn push_word(r: u8, w: u16) -> u8
+    requires { r < 128 }
+    ensures pushed { result ≡ pushes 16 r w }
+    ensures small { result < 128 }
 {
     let high = (w / 256) as u8;
     let low = (w % 256) as u8;
-    push_byte(steps, push_byte(steps, r, high), low)
+    push_byte(push_byte(r, high), low)
 }

@@ -9,174 +9,92 @@
 // words of document 01, and writes stdin and stdout.
 #![tactic(auto)]
 
-ghost use Rattle.std.specs.Prelude.{◌≤◌, length};
-
-use sequence::{BlockCheck, FrameChecks};
-use std::io::Read;
+use arrayvec::ArrayVec;
+use std::{fmt, io};
 
 // The length of the buffer. Where the input fills it, more of it may follow.
 const ROOM: usize = 65536;
 
-// How many words of a line are kept, the first ones: more than any frame has, so that a longer line is not taken for a frame.
-const KEPT: usize = 20;
+// The first words of a line: room for more than any frame has, so that a longer line is not taken for a frame.
+type Words = ArrayVec<u16, 20>;
 
-// A line as far as it was read: its whole words, as many as `count` says, and the word that its last digits begin, where it is open.
+// The check byte of a line as one block, where it is a block, and those of its blocks as a frame, none where it is no frame.
 #[derive(Clone, Copy)]
-struct Line {
-    words: [u16; KEPT],
-    count: usize,
-    word: u16,
-    open: bool,
+struct Answer<'a> {
+    block: Option<u8>,
+    frame: &'a [u8],
+}
+
+impl fmt::Display for Answer<'_> {
+    fn fmt<W: fmt::Write>(&self, f: &mut fmt::Formatter<W>) -> fmt::Result {
+        match self.block {
+            Some(byte) => write!(f, "block={byte:02x}")?,
+            None => write!(f, "block=range")?,
+        }
+        match self.frame {
+            [] => write!(f, " frame=none"),
+            [first, others @ ..] => {
+                write!(f, " frame={first:02x}")?;
+                for byte in others {
+                    write!(f, ",{byte:02x}")?;
+                }
+                Ok(())
+            }
+        }
+    }
+}
+
+// The value of a hexadecimal digit.
+fn digit(byte: &u8) -> Option<u16> {
+    match *byte {
+        b'0'..=b'9' => Some(u16::from(*byte - b'0')),
+        b'a'..=b'f' => Some(u16::from(*byte - b'a') + 10),
+        _ => None,
+    }
+}
+
+fn word_of(digits: &[u8]) -> u16 {
+    digits
+        .iter()
+        .filter_map(digit)
+        .fold(0, |word, digit| (word << 4) | digit)
+}
+
+fn words_of(line: &[u8]) -> Words {
+    let mut words = Words::new();
+    for digits in line.split(|byte| digit(byte).is_none()) {
+        if !digits.is_empty() {
+            let _ = words.try_push(word_of(digits));
+        }
+    }
+    words
 }
 
 // A write that fails is passed over: the answers that are missing show it.
-fn print(rt: &impl Print, text: &[u8]) {
-    let _ = rt.write_all(text);
+fn print_answer(rt: &impl Print, words: &[u16]) {
+    let block = sequence::block_check(words).ok();
+    let checks = sequence::frame_checks(words);
+    let frame = &checks.bytes[..checks.count.min(4)];
+    let answer = Answer { block, frame };
+    let _ = println!(rt; "{answer}");
 }
 
-// Two hexadecimal digits.
-fn print_byte(rt: &impl Print, b: u8) {
-    let _ = print!(rt; "{b:02x}");
-}
-
-fn print_block(rt: &impl Print, answer: BlockCheck) {
-    print(rt, b"block=");
-    match answer {
-        BlockCheck::Byte(b) => print_byte(rt, b),
-        BlockCheck::Range => print(rt, b"range"),
-    }
-}
-
-// Check byte i of a frame, after a comma unless it is the first. The frame has `count` of them.
-fn print_check(rt: &impl Print, i: usize, count: usize, b: u8) {
-    if count <= i {
-        return;
-    }
-    if 0 < i {
-        print(rt, b",");
-    }
-    print_byte(rt, b);
-}
-
-fn print_frame(rt: &impl Print, answer: FrameChecks) {
-    let count = answer.count;
-    let bytes = answer.bytes;
-    print(rt, b" frame=");
-    if count == 0 {
-        print(rt, b"none");
-    }
-    print_check(rt, 0, count, bytes[0]);
-    print_check(rt, 1, count, bytes[1]);
-    print_check(rt, 2, count, bytes[2]);
-    print_check(rt, 3, count, bytes[3]);
-    print(rt, b"\n");
-}
-
-fn answer(rt: &impl Print, words: &[u16]) {
-    print_block(rt, sequence::block_check(words));
-    print_frame(rt, sequence::frame_checks(words));
-}
-
-// The first n of the words, or all where there are no more.
-fn answer_first(rt: &impl Print, words: &[u16], n: usize) {
-    if n < words.len() {
-        answer(rt, &words[0..n]);
-    } else {
-        answer(rt, words);
-    }
-}
-
-fn empty_line() -> Line {
-    Line {
-        words: [0; KEPT],
-        count: 0,
-        word: 0,
-        open: false,
-    }
-}
-
-// The value of a hexadecimal digit, 16 for a byte that is none.
-fn value(b: u8) -> u16 {
-    match b {
-        b'0'..=b'9' => (b - b'0') as u16,
-        b'a'..=b'f' => (b - b'a') as u16 + 10,
-        _ => 16,
-    }
-}
-
-fn add_digit(line: Line, d: u16) -> Line {
-    let mut next = line;
-    next.word = (line.word << 4) | d;
-    next.open = true;
-    next
-}
-
-// The open word, if there is one, is whole. It is kept if there is room.
-fn end_word(line: Line) -> Line {
-    let mut next = line;
-    next.word = 0;
-    next.open = false;
-    let at = line.count;
-    if !line.open {
-        return next;
-    }
-    if KEPT <= at {
-        return next;
-    }
-    next.words[at] = line.word;
-    next.count = at + 1;
-    next
-}
-
-fn end_line(rt: &impl Print, line: Line) {
-    let whole = end_word(line);
-    answer_first(rt, &whole.words, whole.count);
-}
-
-// The line with one more byte of the input; a newline has it answered, and the next one is empty.
-fn feed(rt: &impl Print, line: Line, b: u8) -> Line {
-    if b == b'\n' {
-        end_line(rt, line);
-        return empty_line();
-    }
-    let d = value(b);
-    if d < 16 {
-        add_digit(line, d)
-    } else {
-        end_word(line)
-    }
-}
-
+// What follows the last newline is no line.
 fn answer_lines(rt: &impl Print, text: &[u8]) {
-    let mut line = empty_line();
-    let mut i: usize = 0;
-    while i < text.len() {
-        line = feed(rt, line, text[i]);
-        i += 1;
-    }
-}
-
-// Reads until the buffer is full, the input ends or a read fails: how many bytes came, at the start of the buffer.
-fn read_full(input: &mut impl Read, buffer: &mut [u8]) -> usize
-    ensures { result ≤ length buffer.new }
-{
-    let mut done: usize = 0;
-    while done < buffer.len() {
-        match input.read(&mut buffer[done..]) {
-            Ok(0) => return done,
-            Ok(n) => done += n,
-            Err(_) => return done,
+    for piece in text.split_inclusive(|byte| *byte == b'\n') {
+        if let Some(line) = piece.strip_suffix(b"\n") {
+            print_answer(rt, words_of(line).as_slice());
         }
     }
-    done
 }
 
 fn main(rt: HostRuntime) {
-    let mut buffer = [0u8; ROOM];
-    let n = read_full(&mut rt.stdin(), &mut buffer);
-    if n == ROOM {
-        print(&rt, b"input too long\n");
+    let mut input = ArrayVec::<u8, ROOM>::new();
+    // Where a read fails, or the buffer is full, the buffer has what came until then.
+    let _ = io::copy(&mut rt.stdin(), &mut input);
+    if input.is_full() {
+        let _ = println!(rt; "input too long");
         return;
     }
-    answer_lines(&rt, &buffer[..n]);
+    answer_lines(&rt, input.as_slice());
 }

@@ -1,36 +1,44 @@
 -- `frames::judge` gives the judgement: by the outcomes of its tests, and from what its callees ensure. Assumes nothing.
-use mathlib.Core.Path.{◌≡◌, sym, ◌∙◌, ap}
-use lib.ListN.{length}
-use lib.Seq.{length-take-le}
-use Rattle.frames.specs.declared.Judgement.TheVariants.{Unsound}
+use Rattle.std.proofs.Common.{◌≡◌, sym, ◌∙◌, ◌||◌}
 use Rattle.frames.specs.Hearing.{words_of}
-use native.Mathlib.Omega.{arith}
-use Rattle.frames.proofs.Judged.{wrong_size_lem, wrong_ends, right_counts}
-use borrow.Author.Rules.{rules}
+use Rattle.frames.specs.Judge.{any_wrong}
+use Rattle.frames.proofs.Judged.{wrong_size_lem, wrong_ends, right_counts, at_fault, faultless}
+use Rattle.frames.proofs.judge.Goals.{then-h-n-via-then-h-n, then-h-n-via-else-h-n+then-h-ends, then-is_marked, else-is_marked}
 use Rattle.frames.proofs.judge.Goals as goal
 
-pub returns-then-size-n : goal.returns-then-size-n
-returns-then-size-n c = ap Unsound c.no_wrong.ensures ∙ wrong_size_lem _ _ c.if-size-n.true
+pub returns-then-h-n : goal.returns-then-h-n
+returns-then-h-n c =
+    elim c.then-h-n.branch [
+      | then-h-n-via-then-h-n w ↦ wrong_size_lem _ _ w.if-h-n.true
+      | then-h-n-via-else-h-n+then-h-ends w ↦
+          let other = w.if-h-ends.true in
+          wrong_ends _ _ w.if-h-n.false (λ e. other (e ∙ sym c.block_count-ends.ensures))
+    ]
 
-pub returns-then-h-ends : goal.returns-then-h-ends
-returns-then-h-ends c =
-    let other = c.if-h-ends.true in
-    ap Unsound c.no_wrong-then-h-ends.ensures ∙ wrong_ends _ _ c.if-size-n.false (λ e. other (e ∙ sym c.block_count-ends.ensures))
-
-pub slice_bounds-words-end : goal.slice_bounds-words-end
-slice_bounds-words-end c =
-    let l : length c.args.h.words ≡ 16 = search rules in
-    omega arith
-
-pub slice_bounds-wrong_blocks-end : goal.slice_bounds-wrong_blocks-end
-slice_bounds-wrong_blocks-end c =
-    let h = c.args.h in
-    let l : length h.words ≡ 16 = search rules in
-    sym (length-take-le h.size h.words (omega arith))
-
-pub returns : goal.returns
+pub returns-then-any_wrong : goal.returns-then-any_wrong
 unfolding words_of
-returns c =
+returns-then-any_wrong c =
     let a = c.args in
-    let counts = right_counts a.n a.h c.if-size-n.false (c.if-h-ends.false ∙ c.block_count-ends.ensures) in
-    (c.tell.ensures ∙ rw (c.is_marked.ensures, c.wrong_blocks-wrong.ensures) counts)
+    let wrong = c.wrong_blocks-wrong.result in
+    let tested : c.if-is_marked.value ≡ (c.is_marked.result || any_wrong wrong) =
+    elim c.if-is_marked.branch [
+      | then-is_marked w ↦ rw w.if-is_marked.true (w.value-is ∙ w.if-is_marked.true)
+      | else-is_marked w ↦ rw w.if-is_marked.false (w.value-is ∙ w.any_wrong.ensures)
+    ]
+    in
+    at_fault c.is_marked.result wrong (sym tested ∙ c.if-any_wrong.true)
+    ∙ rw (c.is_marked.ensures, c.wrong_blocks-wrong.ensures) (right_counts a.n a.h c.if-h-n.false (c.if-h-ends.false ∙ c.block_count-ends.ensures))
+
+pub returns-else-any_wrong : goal.returns-else-any_wrong
+unfolding words_of
+returns-else-any_wrong c =
+    let a = c.args in
+    let wrong = c.wrong_blocks-wrong.result in
+    let tested : c.if-is_marked.value ≡ (c.is_marked.result || any_wrong wrong) =
+    elim c.if-is_marked.branch [
+      | then-is_marked w ↦ rw w.if-is_marked.true (w.value-is ∙ w.if-is_marked.true)
+      | else-is_marked w ↦ rw w.if-is_marked.false (w.value-is ∙ w.any_wrong.ensures)
+    ]
+    in
+    faultless c.is_marked.result wrong (sym tested ∙ c.if-any_wrong.false)
+    ∙ rw (c.is_marked.ensures, c.wrong_blocks-wrong.ensures) (right_counts a.n a.h c.if-h-n.false (c.if-h-ends.false ∙ c.block_count-ends.ensures))

@@ -37,7 +37,7 @@ unfolding byte_at check_at
 returns-then-k-block_count c =
     let a = c.args in
     rw (lt-ltb _ _ (rw c.block_count.ensures at c.if-k-block_count.true))
-    (rw c.lesser-end.ensures at c.check.ensures ∙ ap check_of (cut a.words.now (4 * a.k)))
+    (rw c.min-end.ensures at c.check.ensures ∙ ap check_of (cut a.words.now (4 * a.k)))
 
 pub returns-else-k-block_count : goal.returns-else-k-block_count
 unfolding byte_at

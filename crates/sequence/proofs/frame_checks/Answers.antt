@@ -1,7 +1,5 @@
 -- `sequence::frame_checks` gives the check byte of each block, taken apart from the number that they are joined to. Assumes nothing.
-use Prim.Native.Nat.{ℕ}
-use mathlib.Core.Path.{ap₂}
-use mathlib.Core.List.{List}
+use Rattle.std.proofs.Common.{ℕ, List, ap₂, ◌∙◌}
 use Rattle.sequence.specs.declared.FrameChecks.{FrameChecks}
 use Rattle.sequence.specs.Frame.{frame_checks}
 use Rattle.sequence.proofs.Blocks.{taken_apart}
@@ -12,4 +10,4 @@ made n bs = record { count = n; bytes = bs }
 
 pub returns : goal.returns
 unfolding frame_checks made
-returns c = ap₂ made c.block_count.ensures (taken_apart _ _ c.bytes_joined-joined.ensures)
+returns c = ap₂ made c.block_count.ensures (c.to_le_bytes.ensures ∙ taken_apart _ _ c.bytes_joined.ensures)

@@ -13,7 +13,7 @@ unfolding part_of
 returns-then-page-at c =
     let a = c.args in
     record {
-      result_value = rw (drop_of_length-le a.page.now c.if-page-at.true, take-nil a.n);
+      words = rw (drop_of_length-le a.page.now c.if-page-at.true, take-nil a.n);
       place = (refl, λ h. absurd (omega (arith, c.if-page-at.true)));
     }
 
@@ -25,7 +25,7 @@ returns-then-page-at-2 c =
     let tail = drop at a.page.now in
     let end : length tail ≡ length a.page.now - at = length-drop at a.page.now in
     record {
-      result_value = take_all (length a.page.now - at) tail (omega arith) ∙ sym (take_all a.n tail (omega arith));
+      words = take_all (length a.page.now - at) tail (omega arith) ∙ sym (take_all a.n tail (omega arith));
       place = (refl, λ h. omega arith);
     }
 
@@ -33,4 +33,4 @@ pub returns : goal.returns
 unfolding part_of
 returns c =
     let a = c.args in
-    record { result_value = rw (add-sub_cancel_left (page_place a.p) a.n); place = (refl, λ h. omega arith) }
+    record { words = rw (add-sub_cancel_left (page_place a.p) a.n); place = (refl, λ h. omega arith) }

@@ -6,6 +6,6 @@ returns c =
     let flags = c.flags_of.ensures in
     let got = c.get_port-w.ensures in
     record {
-      result_value = rw (c.valid_part.ensures.result_value, flags, c.port_size-n.ensures, got);
+      words = rw (c.valid_part.ensures.words, flags, c.port_size-n.ensures, got);
       place = rw (flags, got) at c.valid_part.ensures.place;
     }

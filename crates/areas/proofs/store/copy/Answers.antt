@@ -1,14 +1,8 @@
--- `areas::store::copy` leaves the page as defined. The loop's invariant: storing what is left in the page so far gives the whole.
--- Assumes nothing.
-use Prim.Native.Nat.{ℕ, ◌+◌, ◌<◌}
-use mathlib.Core.Path.{◌≡◌, refl, ◌∙◌}
-use mathlib.Core.List.{List}
-use native.Mathlib.Nat.{add-zero, add-suc}
-use native.Mathlib.Numerals.{add-one}
-use native.Mathlib.Omega.{arith}
-use borrow.Author.Rules.{rules}
-use lib.ListN.{length, get_or, set, drop, drop_of_length-le}
-use lib.Seq.{sets, drop-cons}
+-- `areas::store::copy` leaves the page as defined. Assumes nothing.
+use Rattle.std.proofs.Common.{◌≡◌, ◌∙◌, ℕ, ◌+◌, ◌<◌, List, length, get_or, drop, set, add-zero, add-one, drop-cons}
+use native.Mathlib.Nat.{add-suc}
+use lib.ListN.{drop_of_length-le}
+use lib.Seq.{sets}
 use Rattle.model.specs.Layout.{with_part}
 use Rattle.areas.proofs.store.copy.Goals as goal
 
@@ -17,17 +11,11 @@ one_more : (page : List ℕ) (at : ℕ) (ws : List ℕ) (i : ℕ) → i < length
 one_more page at ws i h = rw (drop-cons ws i 0 h, add-one i, add-suc at i)
 
 pub loop-i-init : goal.loop-i-init
-loop-i-init c = (search rules, refl, rw add-zero)
+loop-i-init c = rw add-zero
 
 pub loop-i-preserved : goal.loop-i-preserved
-loop-i-preserved c =
-    let l = c.loop-i in
-    let e = c.put.ensures in
-    (search rules, search rules, rw e (one_more _ _ _ l.i (omega arith) ∙ l.invariant.2))
-
-pub shape_of-page : goal.shape_of-page
-shape_of-page c = c.loop-i.invariant.1
+loop-i-preserved c = rw c.put.ensures (one_more _ _ _ c.loop-i.i c.loop-i-test.true ∙ c.loop-i.invariant)
 
 pub returns : goal.returns
 unfolding with_part
-returns c = rw (drop_of_length-le _ c.loop-i-test.false) at c.loop-i.invariant.2
+returns c = rw (drop_of_length-le _ c.loop-i-test.false) at c.loop-i.invariant

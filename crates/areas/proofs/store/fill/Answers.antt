@@ -7,9 +7,9 @@ unfolding filled
 returns c =
     rw (
       c.put_port.ensures,
-      c.fill_words-x.ensures,
-      c.copy_aside.ensures.0,
-      c.copy_aside.ensures.1,
-      c.flags_of-f.ensures,
+      c.fill_words.ensures,
+      c.copy_aside.ensures.zero,
+      c.copy_aside.ensures.one,
+      c.flags_of.ensures,
       c.get_port-w.ensures,
     )

@@ -2,12 +2,13 @@
 use Rattle.std.proofs.lemmas.Bool.{eq-eqb, ne_eqb}
 use Rattle.model.specs.Ports.{aged}
 use Rattle.model.specs.Grown.{grown_by}
+use Rattle.bus.proofs.calls.grow.Goals.{then-k-ne0, else-k-ne0}
 use Rattle.bus.proofs.calls.grow.Goals as goal
-
-pub returns-then-none : goal.returns-then-none
-unfolding grown_by
-returns-then-none c = rw (c.phase_later.ensures, ← c.ends_within-k.ensures, (eq-eqb _ _ c.if-none.true))
 
 pub returns : goal.returns
 unfolding grown_by aged
-returns c = rw (c.phase_later-2.ensures, c.age_ports.ensures, ← c.ends_within-k.ensures, (ne_eqb _ _ c.if-none.false))
+returns c =
+    elim c.if-k-ne0.branch [
+      | then-k-ne0 w ↦ rw (w.ports-is, w.age_ports.ensures, c.phase_later.ensures, ← c.ends_within-k.ensures, ne_eqb _ _ w.if-k-ne0.true)
+      | else-k-ne0 w ↦ rw (w.ports-is, c.phase_later.ensures, ← c.ends_within-k.ensures, eq-eqb _ _ w.if-k-ne0.false)
+    ]

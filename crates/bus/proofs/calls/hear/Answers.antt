@@ -1,39 +1,30 @@
 -- `bus::calls::hear`: the outcome of an accepted event, or of a refused one. Assumes nothing.
-use Rattle.std.proofs.lemmas.Bool.{eq-eqb, ne_eqb}
+use Rattle.std.proofs.Common.{◌≡◌, ◌∙◌, sym, ap, Ok}
+use Rattle.std.proofs.lemmas.Result.{err_from_is_err_and}
 use Rattle.model.specs.Layout.{areas}
-use mathlib.Core.Path.{◌≡◌, sym}
 use Rattle.model.specs.Event.{world, heard_by}
-use Rattle.model.specs.Calls.{hear, refusal}
+use Rattle.model.specs.Calls.{word_of_heard}
+use Rattle.bus_ports.specs.Found.{sought_by, port_of}
 use Rattle.bus.proofs.Outcomes.{hear_refused, hear_accepted, call_refused}
 use Rattle.bus.proofs.calls.hear.Goals as goal
-use Rattle.bus.proofs.calls.hear.Goals.{After-event_refusal-no}
 
--- the number that is computed is the model's
-number : (c : After-event_refusal-no)
-    → let a = c.args in
-    c.event_refusal-no.result ≡ refusal (hear a.a a.b) (world a.c (areas a.index.now a.ports.now a.page0.now a.page1.now))
+pub returns-in_err-found : goal.returns-in_err-found
 unfolding heard_by
-number c =
+returns-in_err-found c =
     let a = c.args in
-    rw (
-      c.event_refusal-no.ensures,
-      c.either-out.ensures,
-      c.in_range-2.ensures,
-      c.in_range.ensures,
-      c.fits-fit.ensures,
-      c.sought_heard-s.ensures,
-      c.heard-h.ensures,
-      c.trusted-t.ensures,
-    )
-    (hear_refused (world a.c (areas a.index.now a.ports.now a.page0.now a.page1.now)) a.a a.b)
-
-pub returns-then-ok : goal.returns-then-ok
-unfolding heard_by
-returns-then-ok c =
-    hear_accepted _ _ _ _ (number (goal.at.returns-then-ok c).After-event_refusal-no) (eq-eqb _ _ c.if-ok.true) _
-    (rw (c.heard-h.ensures, c.trusted-t.ensures) at
-    (rw (c.observed-o.ensures, c.sought_heard-s.ensures) at
-    c.accept.ensures))
+    let s = world a.c (areas a.index.now a.ports.now a.page0.now a.page1.now) in
+    let p = err_from_is_err_and c.from_residual.result c.from_residual.ensures.1 in
+    let number = rw (c.is_out-out.ensures, c.fits-fit.ensures, c.sought_heard.ensures, c.heard-h.ensures, c.trusted-t.ensures) at c.in_err-found.ensures.number in
+    rw (p.1, p.2) (sym (call_refused _ s _ (number ∙ hear_refused s a.a a.b)))
 
 pub returns : goal.returns
-returns c = rw c.silent.ensures (sym (call_refused _ _ _ (number (goal.at.returns c).After-event_refusal-no) (ne_eqb _ _ c.if-ok.false)))
+unfolding heard_by
+returns c =
+    let a = c.args in
+    let s = world a.c (areas a.index.now a.ports.now a.page0.now a.page1.now) in
+    let number = rw (c.is_out-out.ensures, c.fits-fit.ensures, c.sought_heard.ensures, c.heard-h.ensures, c.trusted-t.ensures) at c.in_ok-found.ensures.number in
+    let found : sought_by a.index.now a.ports.now (word_of_heard (heard_by a.c a.a a.b)) ≡ Ok c.in_ok-found.found =
+    rw (c.sought_heard.ensures, c.heard-h.ensures, c.trusted-t.ensures) at c.in_ok-found.ensures.found
+    in
+    hear_accepted s a.a a.b (number ∙ hear_refused s a.a a.b) _
+    (rw (← (ap port_of found)) at (rw (c.heard-h.ensures, c.trusted-t.ensures, c.observed-o.ensures) at c.accept.ensures))

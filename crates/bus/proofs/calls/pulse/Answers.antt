@@ -14,9 +14,10 @@ returns c =
     rw (
       c.pulse_controller.ensures,
       c.miss.ensures,
-      c.sink_of.ensures,
-      c.sought_due-s.ensures,
-      c.due.ensures,
+      c.sink_of-sink.ensures,
+      c.unwrap_or-found.ensures,
+      c.sought_due.ensures,
+      c.due-due.ensures,
       pulse_controller_lem (world a.c m),
       late_found m,
     )

@@ -1,30 +1,20 @@
 -- `calls::open` opens the port where its number is due. Assumes nothing.
-use Rattle.model.specs.Layout.{areas}
-use mathlib.Core.Path.{sym, ◌∙◌}
-use Rattle.port_digits.specs.Read.{cut}
-use Rattle.port_line.specs.Meaning.{state_after}
+use Rattle.std.proofs.Common.{sym, ◌∙◌}
+use Rattle.port_line.specs.declared.Stage.TheVariants.{Address}
+use Rattle.port_line.specs.Meaning.{meaning}
 use Rattle.port_line.proofs.Hosting.{hosted_ended}
-use Rattle.port_line.proofs.Keys.{index_given}
+use Rattle.port_line.proofs.calls.open.Goals.{in_default-via-in-Some+else-is_due, in_default-via-in_default}
 use Rattle.port_line.proofs.calls.open.Goals as goal
 
-pub returns-then-ok : goal.returns-then-ok
-returns-then-ok c =
-    λ o.
-    let a = c.args in
-    let n = a.n in
-    let s = state_after (areas a.index.now a.ports.now a.page0.now a.page1.now) a.s in
-    rw (
-      index_given n.good s (cut 65535 n.value),
-      sym c.both-ok.ensures ∙ c.if-ok.true,
-      ← c.word.ensures,
-      c.staged-r.ensures,
-    ) (hosted_ended a.s 0 _ _ _ _ o c.open-no.ensures)
+pub returns-in-Some : goal.returns-in-Some
+unfolding meaning
+returns-in-Some c =
+    λ o. rw (c.in-Some.is, sym c.is_due.ensures ∙ c.if-is_due.true, ← c.word.ensures)
+    (hosted_ended c.args.s Address _ _ _ _ o (rw (← c.of_call.ensures) at c.«open».ensures))
 
-pub returns : goal.returns
-returns c =
-    λ o.
-    let a = c.args in
-    let n = a.n in
-    let s = state_after (areas a.index.now a.ports.now a.page0.now a.page1.now) a.s in
-    rw (index_given n.good s (cut 65535 n.value), sym c.both-ok.ensures ∙ c.if-ok.false)
-    (c.misplace.ensures _ o)
+pub returns-in_default : goal.returns-in_default
+unfolding meaning
+returns-in_default c = λ o. elim c.in_default.branch [
+  | in_default-via-in-Some+else-is_due w ↦ rw (w.in-Some.is, sym w.is_due.ensures ∙ w.if-is_due.false) (c.misplace.ensures _ o)
+  | in_default-via-in_default w ↦ rw w.in_default.is (c.misplace.ensures _ o)
+]

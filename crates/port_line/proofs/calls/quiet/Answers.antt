@@ -1,32 +1,12 @@
 -- `calls::quiet` is the outcome of its call, where no port is described in part. Assumes nothing.
-use Rattle.model.specs.Layout.{areas}
-use mathlib.Core.Path.{sym, ◌∙◌, ap}
-use Rattle.port_digits.specs.Write.{paper}
-use Rattle.model.specs.Calls.{Outcome}
-use Rattle.port_line.specs.Meaning.{answered, state_after, ended_by}
-use Rattle.port_line.proofs.Keys.{quiet_given}
+use Rattle.std.proofs.Common.{sym, ◌∙◌}
+use Rattle.port_line.specs.Meaning.{meaning}
+use Rattle.port_line.proofs.calls.quiet.Goals.{in_default-via-in-Some+else-is_whole, in_default-via-in_default}
 use Rattle.port_line.proofs.calls.quiet.Goals as goal
 
-pub returns-then-ok : goal.returns-then-ok
-returns-then-ok c =
-    let a = c.args in
-    let n = a.n in
-    let s = state_after (areas a.index.now a.ports.now a.page0.now a.page1.now) a.s in
-    rw (
-      quiet_given n.good s n.value,
-      ← c.is_whole.ensures,
-      sym c.both-ok.ensures ∙ c.if-ok.true,
-    )
-    (c.answer.ensures _ ∙ ap (λ (x : Outcome). ended_by (paper a.out.now a.s.at) (answered x a.s.setup))
-    c.quiet-a.ensures)
-
-pub returns : goal.returns
-returns c =
-    let a = c.args in
-    let n = a.n in
-    let s = state_after (areas a.index.now a.ports.now a.page0.now a.page1.now) a.s in
-    rw (
-      quiet_given n.good s n.value,
-      ← c.is_whole.ensures,
-      sym c.both-ok.ensures ∙ c.if-ok.false,
-    ) (c.misplace.ensures _ _)
+pub returns-in_default : goal.returns-in_default
+unfolding meaning
+returns-in_default c = elim c.in_default.branch [
+  | in_default-via-in-Some+else-is_whole w ↦ rw (w.in-Some.is, sym w.is_whole.ensures ∙ w.if-is_whole.false) (c.misplace.ensures _ _)
+  | in_default-via-in_default w ↦ rw w.in_default.is (c.misplace.ensures _ _)
+]

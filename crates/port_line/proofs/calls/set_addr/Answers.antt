@@ -1,16 +1,16 @@
 -- `calls::set_addr` is a setup line in its place. Assumes nothing.
-use Rattle.port_digits.specs.Read.{cut}
-use Rattle.port_line.specs.Meaning.{state_after}
-use Rattle.port_line.proofs.Keys.{addr_given}
+use Rattle.std.proofs.Common.{sym, ◌∙◌}
+use Rattle.port_line.specs.Meaning.{meaning}
+use Rattle.port_line.proofs.calls.set_addr.Goals.{in_default-via-in-Some+else-is_due, in_default-via-in_default}
 use Rattle.port_line.proofs.calls.set_addr.Goals as goal
 
-pub returns : goal.returns
-returns c =
-    λ m o.
-    let a = c.args in
-    let n = a.n in
-    rw (
-      addr_given n.good (state_after m a.s) (cut 65535 n.value),
-      ← c.both.ensures,
-      ← c.word.ensures,
-    ) (c.describe.ensures m o)
+pub returns-in-Some : goal.returns-in-Some
+unfolding meaning
+returns-in-Some c = λ m o. rw (c.in-Some.is, sym c.is_due.ensures ∙ c.if-is_due.true, ← c.word.ensures) (c.describe.ensures m o)
+
+pub returns-in_default : goal.returns-in_default
+unfolding meaning
+returns-in_default c = λ m o. elim c.in_default.branch [
+  | in_default-via-in-Some+else-is_due w ↦ rw (w.in-Some.is, sym w.is_due.ensures ∙ w.if-is_due.false) (c.misplace.ensures m o)
+  | in_default-via-in_default w ↦ rw w.in_default.is (c.misplace.ensures m o)
+]

@@ -1,7 +1,9 @@
 -- `step::step` does what a line means: it is the line of its key. Assumes nothing.
-use mathlib.Core.Path.{refl}
-use Rattle.port_line.proofs.Keys.{line_as_lem}
+use Rattle.std.proofs.Common.{◌∙◌, sym}
+use Rattle.port_text.specs.Line.{line_of, line_as}
+use Rattle.port_line.specs.Meaning.{meaning}
 use Rattle.port_line.proofs.step.step.Goals as goal
 
-pub returns : goal.returns
-returns c = rw (line_as_lem _ c.key_of-key.ensures c.before-2.ensures c.after-v.ensures refl) c.by_key.ensures
+pub returns-in-None : goal.returns-in-None
+unfolding line_of line_as meaning
+returns-in-None c = rw (← c.before-2.ensures, sym c.key_of.ensures ∙ c.in-None.is) (c.misplace.ensures _ _)

@@ -4,4 +4,4 @@ use Rattle.sequence.proofs.table.step.Goals as goal
 
 pub returns : goal.returns
 unfolding StepTable
-returns c = c.requires.0 c.args.i c.requires.1
+returns c = c.steps.ensures c.args.i c.requires

@@ -1,9 +1,0 @@
--- `line_length` ends within the text: the measure is what is left of it.
-use Rattle.std.proofs.Common.{length, ◌-◌, ◌≤◌}
-use Rattle.bus_cases.proofs.script.line_length.Given as goal
-
-abbrev pub invariant-loop-i : goal.invariant-loop-i
-invariant-loop-i l = l.i ≤ length l.text
-
-abbrev pub decreases-loop-i : goal.decreases-loop-i
-decreases-loop-i l = length l.text - l.i

@@ -1,5 +1,0 @@
--- `acts5` meets its contract: its three tests are joined as the definition joins them. Assumes nothing.
-use Rattle.bus_lines.proofs.acts5.Goals as goal
-
-pub returns : goal.returns
-returns c = cc

@@ -1,5 +1,0 @@
--- `is_poor` meets its contract: its three tests are joined as the definition joins them. Assumes nothing.
-use Rattle.bus_lines.proofs.is_poor.Goals as goal
-
-pub returns : goal.returns
-returns c = cc

@@ -1,8 +1,0 @@
--- `groups::on_group1` meets its contract: the call is made on the group, and the rest of the controller is kept. Assumes nothing.
-use Rattle.model.specs.Host.{tell}
-use Rattle.host_controller.specs.Groups.{group_read, reading1}
-use Rattle.host_controller.proofs.groups.on_group1.Goals as goal
-
-pub returns : goal.returns
-unfolding group_read reading1 tell
-returns c = rw c.on_group-read.ensures

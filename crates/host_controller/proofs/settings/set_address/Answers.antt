@@ -1,8 +1,0 @@
--- `settings::set_address` meets its contract: the definitions are opened, and its parts are what the callees ensure. Assumes nothing.
-use Rattle.model.specs.Host.{tell}
-use Rattle.host_controller.specs.Settings.{told_for}
-use Rattle.host_controller.proofs.settings.set_address.Goals as goal
-
-pub returns : goal.returns
-unfolding told_for tell
-returns c = cc
