@@ -18,7 +18,7 @@ pub fn get(s: &[u16], i: usize) -> u16
     if i < s.len() { s[i] } else { 0 }
 }
 
-// The word at i replaced; nothing past the end.
+// The word at i replaced; nothing past the end. (`port_digits` has the same of any type, and says why it stands twice.)
 pub fn put(s: &mut [u16], i: usize, v: u16)
     ensures { s.new ≡ set s.old i v }
 {
@@ -101,7 +101,8 @@ pub fn sink_of(x: u16) -> bool
     x / constants::SINK % 2 == 1
 }
 
-// Word 1 taken apart; bits above the marks of the blocks are not looked at.
+// Word 1 taken apart; bits above the marks of the blocks are not looked at. No `From`, here or below: neither the flags nor the number is a type of this
+// crate, in which alone the bits have their places.
 pub fn flags_of(x: u16) -> Flags
     ensures { result ≡ flags_of x }
 {

@@ -40,6 +40,7 @@ pub fn open_sink(w: Words) -> bool
 pub fn seek(index: &[u16], ports: &[u16], a: u16) -> Result<Option<u16>, Refusal>
     ensures { result ≡ seek (areas index.now ports.now [] []) a }
 {
+    // 0 is no port: so the index table has it, which C lends.
     let e = layout::get(index, a as usize);
     if e == 0 {
         return Ok(None);

@@ -4,10 +4,8 @@ use mathlib.Core.Path.{◌≡◌, refl, ◌∙◌, ap, sym}
 use mathlib.Core.Bool.{Bool, true, false, cond, not, ◌&&◌, ◌||◌}
 use mathlib.Core.List.{List, []}
 use Rattle.std.specs.Prelude.{Option, None, Some, Ok, Err}
-use Rattle.constants.specs.declared.refusals.Refusal.{Refusal}
 use Rattle.constants.specs.declared.refusals.Refusal.TheVariants.{Damaged}
-use Rattle.constants.specs.Refusal.{number, told}
-use Rattle.constants.proofs.Numbers.{refused_number}
+use Rattle.constants.specs.Refusal.{told}
 use lib.Dec.{eqb, leb, ltb}
 use borrow.Author.Tests.{not-false, eqb-true, leb-true, leb-false, le-ltb, lt-ltb}
 use Rattle.frames.specs.declared.Hearing.{Hearing}
@@ -154,7 +152,7 @@ quiet_accepted s q e =
     rw (← e, ticks_grown q s fits)
 
 -- a refused call leaves all as it was
-pub call_refused : (c : Call) (s : World) (e : Refusal) → number e ≡ refusal c s
-    → outcome c s ≡ record { refusal = number e; reply = silent; world = s }
+pub call_refused : (c : Call) (s : World) (n : ℕ) → n ≡ refusal c s → eqb n 0 ≡ false
+    → outcome c s ≡ record { refusal = n; reply = silent; world = s }
 unfolding outcome
-call_refused c s e r = rw (← r, refused_number e)
+call_refused c s n e f = rw (← e, f)

@@ -47,6 +47,13 @@ pub(crate) enum Shown {
     Same,
 }
 
+// Which of the two groups.
+#[derive(Clone, Copy)]
+pub(crate) enum Which {
+    Group0,
+    Group1,
+}
+
 #[derive(Clone, Copy)]
 pub(crate) enum Command<'a> {
     Begin,
@@ -58,8 +65,8 @@ pub(crate) enum Command<'a> {
     Hear(u32),
     Quiet(u32),
     Set(Setting),
-    Group(u16, GroupCall),
-    Outgoing(u16),
+    Group(Which, GroupCall),
+    Outgoing(Which),
     Entry(usize, u16),
     Word(usize, u16),
     Show(Shown),
@@ -93,13 +100,13 @@ impl Line {
             b"switch" => Command::Set(Setting::Switch(first == 1)),
             b"clear" => Command::Set(Setting::ClearErrors),
             b"reset" => Command::Set(Setting::Reset),
-            b"readstatus" => Command::Group(first, GroupCall::ReadStatus),
-            b"readvector" => Command::Group(first, GroupCall::ReadVector),
-            b"writestatus" => Command::Group(first, GroupCall::WriteStatus(second)),
-            b"writevector" => Command::Group(first, GroupCall::WriteVector),
-            b"pending" => Command::Group(first, GroupCall::WritePending(second)),
-            b"mask" => Command::Group(first, GroupCall::WriteMask(second)),
-            b"outgoing" => Command::Outgoing(first),
+            b"readstatus" => Command::Group(self.group(), GroupCall::ReadStatus),
+            b"readvector" => Command::Group(self.group(), GroupCall::ReadVector),
+            b"writestatus" => Command::Group(self.group(), GroupCall::WriteStatus(second)),
+            b"writevector" => Command::Group(self.group(), GroupCall::WriteVector),
+            b"pending" => Command::Group(self.group(), GroupCall::WritePending(second)),
+            b"mask" => Command::Group(self.group(), GroupCall::WriteMask(second)),
+            b"outgoing" => Command::Outgoing(self.group()),
             b"entry" => Command::Entry(usize::from(first), second),
             b"word" => Command::Word(usize::from(first), second),
             b"state" => Command::Show(Shown::State),
@@ -110,6 +117,14 @@ impl Line {
             b"same" => Command::Show(Shown::Same),
             _ => return None,
         })
+    }
+
+    // Group 1 by its number, and group 0 by any other.
+    fn group(&self) -> Which {
+        match self.number(0) {
+            1 => Which::Group1,
+            _ => Which::Group0,
+        }
     }
 
     fn lengths(&self) -> Lengths {

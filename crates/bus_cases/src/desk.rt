@@ -1,5 +1,5 @@
 // What is kept from line to line of the script, and what each command does with it.
-use crate::command::{Command, PortCall, Setting};
+use crate::command::{Command, PortCall, Setting, Which};
 use crate::memory::Memory;
 use crate::spaced::Spaced;
 use bus::Answered;
@@ -136,11 +136,11 @@ impl Desk {
         println!(rt; "{name} {refusal}")
     }
 
-    // A call on group 1, and otherwise on group 0. A reading is printed, a write is not.
-    fn call_group(&mut self, rt: &impl Print, group: u16, call: GroupCall) -> io::Result<()> {
+    // A call on a group. A reading is printed, a write is not.
+    fn call_group(&mut self, rt: &impl Print, group: Which, call: GroupCall) -> io::Result<()> {
         let reading = match group {
-            1 => groups::on_group1(self.controller, call),
-            _ => groups::on_group0(self.controller, call),
+            Which::Group0 => groups::on_group0(self.controller, call),
+            Which::Group1 => groups::on_group1(self.controller, call),
         };
         self.controller = reading.controller;
         match call {
@@ -151,10 +151,10 @@ impl Desk {
     }
 
     // Whether a group's outgoing line is active.
-    fn outgoing(&self, rt: &impl Print, group: u16) -> io::Result<()> {
+    fn outgoing(&self, rt: &impl Print, group: Which) -> io::Result<()> {
         let group = match group {
-            1 => self.controller.group1,
-            _ => self.controller.group0,
+            Which::Group0 => self.controller.group0,
+            Which::Group1 => self.controller.group1,
         };
         println!(rt; "outgoing {}", u8::from(group.line()))
     }

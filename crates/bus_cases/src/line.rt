@@ -90,16 +90,18 @@ impl Line {
 
     fn add_word(&mut self, word: u16) {
         let _ = self.numbers.try_push(word);
-        if let Some(place) = self.heard.words.get_mut(self.heard.size) {
-            *place = word;
-        }
-        self.heard.size = self.heard.size.saturating_add(1);
+        add(&mut self.heard.words, &mut self.heard.size, word);
     }
 
     fn add_check(&mut self, check: u8) {
-        if let Some(place) = self.heard.checks.get_mut(self.heard.ends) {
-            *place = check;
-        }
-        self.heard.ends = self.heard.ends.saturating_add(1);
+        add(&mut self.heard.checks, &mut self.heard.ends, check);
     }
+}
+
+// One value more, where there is room; the count goes on, since a line may tell of more words than there is room for.
+fn add<T: Copy>(places: &mut [T], count: &mut usize, value: T) {
+    if let Some(place) = places.get_mut(*count) {
+        *place = value;
+    }
+    *count = count.saturating_add(1);
 }

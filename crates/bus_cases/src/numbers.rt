@@ -38,8 +38,8 @@ pub(crate) fn numbers_of(controller: Controller) -> [u16; 24] {
         group1.status,
         u16::from(group1.frozen),
         device.address,
-        u16::from(device.status.is_some()),
-        device.status.unwrap_or(0),
+        u16::from(device.set),
+        device.status,
         controller.phase,
     ]
 }

@@ -35,8 +35,8 @@ fn raise_reply(j: Judgement, interrupt: u16, g: Group) -> Group
 }
 
 // Group 0 after an event: EMF for an unsound master frame, DMF if a sound one finds an equal word waited for, SFC for a slave frame,
-// with DSF if we are done and less than the reply time has passed. `interrupt` is that of the sink that a reply answers for, 0 for none, as
-// the port's word has it.
+// with DSF if we are done and less than the reply time has passed. `interrupt` is that of the sink that a reply answers for, 0 for none: the port's
+// word, as it lies in the memory that C lends.
 pub fn raise0(x: Exchange, t: Times, h: Heard, interrupt: u16, g: Group) -> Group
     ensures { result ≡ raise_all (bits0 x t h interrupt) g }
 {

@@ -23,7 +23,7 @@ pub fn device_with(l: Lines, d: Device) -> Device
     ensures { result ≡ device_with l d }
 {
     Device {
-        status: d.status.map(|s| status_with(l, s)),
+        status: status_with(l, d.status),
         ..d
     }
 }

@@ -51,7 +51,7 @@ pub fn sink_of(ports: &[u16], found: Option<u16>) -> Option<u16>
     }
 }
 
-// The data transfer interrupt of a sink; 0 where there is none.
+// The data transfer interrupt of a sink; 0 where there is none, as the port's word has it, which C lends.
 pub fn interrupt_at(ports: &[u16], sink: Option<u16>) -> u16
     ensures { result ≡ interrupt_at ports.now sink }
 {

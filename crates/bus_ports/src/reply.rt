@@ -54,11 +54,9 @@ fn meet<'a>(
         return unanswered(Exchange::Idle);
     }
     match found {
-        Some(p) if source_at(ports, p) => answered(port::valid_words(ports, page0, page1, p)),
-        _ => match d.status {
-            Some(status) if polls_us(d, w) => answered(&[status]),
-            _ => unanswered(Exchange::Waiting(w)),
-        },
+        Some(p) if source_at(ports, p) => { answered(port::valid_words(ports, page0, page1, p)) }
+        _ if polls_us(d, w) && d.set => answered(&[d.status]),
+        _ => unanswered(Exchange::Waiting(w)),
     }
 }
 

@@ -2,8 +2,8 @@
 -- a call hands back fits its numbers. Assumes nothing.
 use Prim.Native.Nat.{ℕ, ◌+◌, ◌/◌, ◌≤◌}
 use mathlib.Core.Path.{◌≡◌, refl}
-use mathlib.Core.Bool.{Bool, true, false, cond}
-use mathlib.Core.List.{List, []}
+use mathlib.Core.Bool.{Bool, true, false, cond, ◌&&◌}
+use mathlib.Core.List.{List, [], ◌∷◌}
 use Rattle.std.specs.Prelude.{Option, None, Some, Ok, Err}
 use native.Mathlib.Omega.{arith}
 use lib.Dec.{eqb, leb}
@@ -20,7 +20,7 @@ use Rattle.model.specs.declared.Heard.TheVariants.{Nothing, Unsound, Master, Rep
 use Rattle.model.specs.Answer.{Sought}
 use Rattle.model.specs.Layout.{Areas, pages_fit, entry, port_at, flags_of, part_of, page_place}
 use Rattle.model.specs.Ports.{code_of, address_of, has_ports, size_of, valid_words, Standing, standing_of, seek, seen, standing}
-use Rattle.model.specs.Event.{World, open_for, port_for, if_source, source_for, polls_us, status_words, own_words, if_expected, answer_to, sent, silent, spoken}
+use Rattle.model.specs.Event.{World, open_for, port_for, if_source, source_for, polls_us, own_words, if_expected, answer_to, sent, silent, spoken}
 use Rattle.model.specs.Event.{heard_by}
 use Rattle.model.proofs.Tables.{answer_of}
 use Rattle.model.proofs.Tables.{hear_answer_lem}
@@ -96,11 +96,7 @@ source_short None h = tt
 source_short (Some v) h = cond_short v.sink None v.shows tt h
 
 own_short : (d : Device) (w : ℕ) (o : Option (List ℕ)) → Short o → Short (own_words d w o)
-own_short d w None h = cond_short (polls_us d w) (status_words d.status) None (go d.status) tt
-  where
-    go : (o : Option ℕ) → Short (status_words o)
-    go None = tt
-    go (Some s) = omega arith
+own_short d w None h = cond_short (polls_us d w && d.set) (Some (d.status ∷ [])) None (omega arith) tt
 own_short d w (Some ws) h = h
 
 expected_short : (x : Option ℕ) (o : Option (List ℕ)) → Short o → Short (if_expected x o)

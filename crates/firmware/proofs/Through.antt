@@ -78,20 +78,31 @@ taken given c x f m o z ex eo = go (areas_fit m) given z
     go true false z = absurd (omega arith)
     go false given z = absurd (omega arith)
 
+-- one that is not has no number but that of a call that is turned away
+away_by : (given : Bool) (m : Areas) (e : Refusal) → number e ≡ admitted given m → ((areas_fit m && given) ≡ false) × (number e ≡ away_number m)
+away_by given m e r = go (areas_fit m) given r
+  where
+    go : (fit given : Bool) → number e ≡ cond fit (cond given 0 2) 1 → ((fit && given) ≡ false) × (number e ≡ cond fit 2 1)
+    go true true z = absurd (no_refusal e z)
+    go true false z = (refl, z)
+    go false given z = (refl, z)
+
 -- one that is turned away leaves all as it was
-pub turned : (given : Bool) (c : Call) (ts : List Test) (f : FlatController) (m : Areas) (e : Refusal) → number e ≡ admitted given m
+pub turned : (fit given : Bool) (c : Call) (ts : List Test) (f : FlatController) (m : Areas) → (fit && given) ≡ false → fit ≡ areas_fit m
+    → (given ≡ true → ours f ≡ true) → tests c (world (controller_of f) m) ≡ (area_test m ∷ ts) → away f m ≡ through given c f m
+unfolding through outcome
+turned true true c ts f m eb ef own e = absurd (true≢false eb)
+turned true false c ts f m eb ef own e = refl
+turned false true c ts f m eb ef own e = rw (unfit c ts (world (controller_of f) m) e (sym ef), sym ef, same_numbers f (own refl))
+turned false false c ts f m eb ef own e = refl
+
+-- by its refusal
+pub turned_by : (given : Bool) (c : Call) (ts : List Test) (f : FlatController) (m : Areas) (e : Refusal) → number e ≡ admitted given m
     → (given ≡ true → ours f ≡ true) → tests c (world (controller_of f) m) ≡ (area_test m ∷ ts)
     → leaves m (answers (number e) f (flat_hearing silent)) ≡ through given c f m
-unfolding through outcome
-turned given c ts f m e r own t = rw r (go (areas_fit m) given refl own r)
-  where
-    go : (fit given : Bool) → areas_fit m ≡ fit → (given ≡ true → ours f ≡ true) → number e ≡ cond fit (cond given 0 2) 1
-        → leaves m (answers (cond fit (cond given 0 2) 1) f (flat_hearing silent))
-        ≡ cond given (flat_outcome (outcome_of (refusal c (world (controller_of f) m)) c (world (controller_of f) m))) (away f m)
-    go true true ef own z = absurd (no_refusal e z)
-    go true false ef own z = rw ef
-    go false true ef own z = rw (unfit c ts (world (controller_of f) m) t ef, same_numbers f (own refl))
-    go false false ef own z = rw ef
+turned_by given c ts f m e r own t =
+    let x = away_by given m e r in
+    rw x.1 (turned (areas_fit m) given c ts f m x.0 refl own t)
 
 -- an opening that is let in is the host's call
 pub opened : (given : Bool) (c : Call) (m : Areas) → 0 ≡ admitted given m → host_call c m ≡ open_through given c m
@@ -104,14 +115,17 @@ opened given c m z = go (areas_fit m) given z
     go false given z = absurd (omega arith)
 
 -- one that is turned away leaves the areas
-pub not_opened : (given : Bool) (c : Call) (ts : List Test) (m : Areas) (e : Refusal) → number e ≡ admitted given m
-    → tests c (fresh_over m) ≡ (area_test m ∷ ts) → out m (number e) ≡ open_through given c m
+pub not_opened : (fit given : Bool) (c : Call) (ts : List Test) (m : Areas) → (fit && given) ≡ false → fit ≡ areas_fit m
+    → tests c (fresh_over m) ≡ (area_test m ∷ ts) → out m (away_number m) ≡ open_through given c m
 unfolding open_through
-not_opened given c ts m e r t = rw r (go (areas_fit m) given refl r)
-  where
-    go : (fit given : Bool) → areas_fit m ≡ fit → number e ≡ cond fit (cond given 0 2) 1
-        → out m (cond fit (cond given 0 2) 1) ≡ cond given (host_call c m) (out m (away_number m))
-    go true true ef z = absurd (no_refusal e z)
-    go true false ef z = rw ef
-    go false true ef z = host_unfit c ts m t ef
-    go false false ef z = rw ef
+not_opened true true c ts m eb ef e = absurd (true≢false eb)
+not_opened true false c ts m eb ef e = refl
+not_opened false true c ts m eb ef e = rw (sym ef) (host_unfit c ts m e (sym ef))
+not_opened false false c ts m eb ef e = refl
+
+-- by its refusal
+pub not_opened_by : (given : Bool) (c : Call) (ts : List Test) (m : Areas) (e : Refusal) → number e ≡ admitted given m
+    → tests c (fresh_over m) ≡ (area_test m ∷ ts) → out m (number e) ≡ open_through given c m
+not_opened_by given c ts m e r t =
+    let x = away_by given m e r in
+    rw x.1 (not_opened (areas_fit m) given c ts m x.0 refl t)

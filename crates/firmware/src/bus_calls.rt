@@ -88,7 +88,7 @@ pub fn tolvendrum_quiet(
     flat_answered(x, calls::quiet(index, ports, page0, page1, x, n))
 }
 
-// The check bytes of a frame.
+// The check bytes of a frame. No `From`: this is the one place, and its contract is that of the call.
 pub fn tolvendrum_checks(words: &[u16]) -> FlatChecks
     ensures { result ≡ flat_checks words.now }
 {

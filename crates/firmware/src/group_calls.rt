@@ -24,6 +24,8 @@ fn read_group(c: Controller, n: u16, k: GroupCall) -> Reading
     }
 }
 
+// What a call on a group leaves, or, where it was given no controller of ours, RANGE and the numbers as they were. `given` stands beside the reading: with
+// an `Option` each caller would test, and this again.
 fn flat_reading(given: bool, r: Reading, f: FlatController) -> FlatReading
     ensures { result ≡ cond given (flat_reading r) (away_reading f) }
 {
@@ -98,7 +100,7 @@ fn group_at(n: u16, c: Controller) -> Group
     if is_set(n) { c.group1 } else { c.group0 }
 }
 
-// The number, or RANGE.
+// The number, or RANGE; `given` as above.
 fn answer(given: bool, value: u16) -> Number
     ensures { result ≡ asks given value }
 {

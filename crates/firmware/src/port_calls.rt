@@ -81,7 +81,8 @@ pub fn tolvendrum_write(
     told(&calls::write(index, ports, page0, page1, a, words))
 }
 
-// What asking answers as a number: 0 never, 1 good, 2 held, 3 stale. No `From`: neither the answer nor the state is a type of this crate.
+// What asking answers as a number: 0 never, 1 good, 2 held, 3 stale. No `From`: the numbers are C's, and belong to this crate, of which neither the answer
+// nor the state is a type.
 fn answer_number(answer: Result<State, Refusal>) -> Number
     ensures { result ≡ answer_number (answer_of answer) }
 {
@@ -104,7 +105,8 @@ pub fn tolvendrum_ask(index: &[u16], ports: &[u16], a: u16) -> Number
     answer_number(calls::ask(index, ports, a))
 }
 
-// The number that fetching is refused with: a page of another length is refused, though asking is not.
+// The number that fetching is refused with: a page of another length is refused, though asking is not. A number, since C is handed it and nothing else is
+// done with it.
 fn fetch_refusal(index: &[u16], ports: &[u16], page0: &[u16], page1: &[u16], a: u16) -> u16
     ensures { result ≡ cond (pages_fit (areas [] [] page0.now page1.now)) (refusal_of (asked (areas index.now ports.now [] []) a)) 1 }
 {

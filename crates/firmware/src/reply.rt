@@ -6,7 +6,7 @@ use firmware_layout::FlatHearing;
 use firmware_layout::hearing::kind_number;
 use frames::Hearing;
 
-// A hearing that has at most 16 words and 4 check bytes, as each of our replies has.
+// A hearing that has at most 16 words and 4 check bytes, as each of our replies has. No `From`, which could ask for nothing.
 pub(crate) fn flat_hearing(h: Hearing) -> FlatHearing
     requires { (h.size ≤ 16) × (h.ends ≤ 4) }
     ensures { result ≡ flat_hearing h }

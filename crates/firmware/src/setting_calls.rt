@@ -19,7 +19,8 @@ pub fn tolvendrum_reset() -> FlatController
     FlatController::from(settings::reset())
 }
 
-// What a setting of the controller x answers, or, where the arguments were no controller and no flag, RANGE and the numbers as they were.
+// What a setting of the controller x answers, or, where the arguments were no controller and no flag, RANGE and the numbers as they were. `given` stands
+// beside the answer, as in `group_calls`.
 fn flat_told(
     given: bool,
     x: Controller,

@@ -1,6 +1,6 @@
 -- The conversions are each other's inverse: a controller of ours comes back from its numbers, and numbers of ours from their controller;
 -- and so do hearings. Part by part, flags and stages by their few values. Assumes nothing.
-use Rattle.std.proofs.Common.{Option, None, Some, is_some, unwrap_or, cond, ℕ, ◌≡◌, ◌&&◌, ◌||◌, Bool, zero, suc, refl, true, false, arith, eqb, leb, ltb, eqb-true, leb-true}
+use Rattle.std.proofs.Common.{ℕ, ◌≡◌, ◌&&◌, ◌||◌, Bool, zero, suc, refl, true, false, arith, eqb, leb, ltb, eqb-true, leb-true}
 use Rattle.std.proofs.Math.Bool.{and-eq-true_iff}
 use Rattle.interrupts.specs.declared.Group.{Group}
 use Rattle.interrupts.specs.Names.{used0, used1}
@@ -12,7 +12,6 @@ use Rattle.model.specs.declared.Exchange.TheVariants.{Idle, Waiting, Done}
 use Rattle.model.specs.declared.Lines.{Lines}
 use Rattle.model.specs.declared.Controller.{Controller}
 use Rattle.model.specs.Quiet.{millisecond}
-use Rattle.model.specs.Host.{device}
 use Rattle.firmware_layout.specs.declared.FlatLines.{FlatLines}
 use Rattle.firmware_layout.specs.declared.FlatGroup.{FlatGroup}
 use Rattle.firmware_layout.specs.declared.FlatDevice.{FlatDevice}
@@ -86,17 +85,11 @@ group_numbers u f e =
     let flag = (and-eq-true_iff (inside u f.pending && inside u f.mask && inside u f.status) (is_bit f.frozen)).0 settled.0 in
     rw (bit_set f.frozen flag.1)
 
--- a status word by its flag
-by_flag : (b : Bool) (a s w : ℕ) → bit_of b ≡ s → (b || eqb w 0) ≡ true
-    → flat_device (device a (cond b (Some w) None)) ≡ record { address = a; set = s; status = w }
-by_flag true a s w e t = rw (← e)
-by_flag false a s w e t = rw (← e, eqb-true w 0 t)
-
 device_numbers : (f : FlatDevice) → device_ours f ≡ true → flat_device (device_of f) ≡ f
 device_numbers f e =
     let told = (and-eq-true_iff _ (is_set f.set || eqb f.status 0)).0 e in
     let flag = (and-eq-true_iff (leb f.address 4095) (is_bit f.set)).0 told.0 in
-    by_flag (is_set f.set) f.address f.set f.status (bit_set f.set flag.1) told.1
+    rw (bit_set f.set flag.1)
 
 -- Numbers of ours come back from their controller.
 pub same_numbers : (f : FlatController) → ours f ≡ true → flat (controller_of f) ≡ f
@@ -124,10 +117,6 @@ lines_back l = rw (set_bit l.laa, set_bit l.rld, set_bit l.ls, set_bit l.slm)
 group_back : (u : ℕ) (g : Group) → g.used ≡ u → group_of u (flat_group g) ≡ g
 group_back u g e = rw (set_bit g.frozen, ← e)
 
-status_back : (o : Option ℕ) → cond (is_set (bit_of (is_some o))) (Some (unwrap_or o 0)) None ≡ o
-status_back None = refl
-status_back (Some w) = refl
-
 -- A controller whose groups are group 0 and group 1 comes back from its numbers.
 pub same_controller : (c : Controller) → c.group0.used ≡ used0 → c.group1.used ≡ used1 → controller_of (flat c) ≡ c
 unfolding flat controller_of
@@ -137,7 +126,7 @@ same_controller c e0 e1 =
       lines_back c.lines,
       group_back used0 c.group0 e0,
       group_back used1 c.group1 e1,
-      status_back c.device.status,
+      set_bit c.device.set,
     )
 
 -- ---- hearings

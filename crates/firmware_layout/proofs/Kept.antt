@@ -1,6 +1,6 @@
 -- What we hand out we take back: the controller that a call leaves is again one of ours, whatever the areas hold. By each part: times stay
 -- below their timeouts, raised bits stay inside their group, and a setting that is accepted is in its range. Assumes nothing.
-use Rattle.std.proofs.Common.{ℕ, ◌+◌, ◌≤◌, ◌<◌, ◌≡◌, ◌∙◌, [], ◌∷◌, ◌++◌, Bool, List, zero, suc, refl, ap, true, false, cond}
+use Rattle.std.proofs.Common.{ℕ, ◌+◌, ◌≤◌, ◌<◌, ◌≡◌, ◌∙◌, [], ◌∷◌, ◌++◌, Bool, List, zero, suc, refl, ap, true, false, cond, true≢false}
 use Rattle.std.proofs.Common.{arith, eqb, leb, ltb, eqb-true, ltb-true, ltb-false, leb-false}
 use Rattle.std.proofs.lemmas.Bool.{not-false}
 use Rattle.frames.specs.declared.Hearing.{Hearing}
@@ -121,7 +121,7 @@ fresh_right =
       times = record { since = omega arith; line = omega arith; chosen = refl; adopted = refl };
       group0 = shaped_fresh used0;
       group1 = shaped_fresh used1;
-      device = record { address = omega arith };
+      device = record { address = omega arith; unset = λ e. refl };
       phase = omega arith;
     }
 
@@ -134,9 +134,9 @@ parts p t g h d = record { times = t; group0 = g; group1 = h; device = d; phase 
 told_right : (t : Setting) (c : Controller) → setting_out t ≡ false → Right c → Right (tell t c)
 unfolding tell
 told_right (address a) c e r =
-    parts r.phase r.times r.group0 r.group1 (record { address = ltb-false 4095 a e })
+    parts r.phase r.times r.group0 r.group1 (record { address = ltb-false 4095 a e; unset = r.device.unset })
 told_right (status w) c e r =
-    parts r.phase r.times r.group0 r.group1 (record { address = r.device.address })
+    parts r.phase r.times r.group0 r.group1 (record { address = r.device.address; unset = λ f. absurd (true≢false f) })
 told_right (reply_time t) c e r =
     let x = r.times in
     parts r.phase (record { since = x.since; line = x.line; chosen = not-false (is_reply_time t) e; adopted = x.adopted }) r.group0 r.group1

@@ -1,6 +1,6 @@
 -- What it is to stand for numbers of ours, part by part: the tests on numbers as facts about the controller, both ways. Assumes nothing.
 use Rattle.std.proofs.Common.{ℕ, ◌≤◌, ◌<◌, ◌≡◌, ◌&&◌, ◌||◌, Bool, refl, true, false, true≢false, eqb, eq-eqb, eqb-true, le-leb, leb-true}
-use Rattle.std.proofs.Common.{lt-ltb, ltb-true, Option, None, Some, is_some, unwrap_or}
+use Rattle.std.proofs.Common.{lt-ltb, ltb-true}
 use Rattle.std.proofs.Math.Bool.{and-eq-true_iff}
 use Rattle.interrupts.specs.declared.Group.{Group}
 use Rattle.interrupts.specs.Names.{used0, used1}
@@ -12,7 +12,7 @@ use Rattle.model.specs.declared.Exchange.TheVariants.{Idle, Waiting, Done}
 use Rattle.model.specs.declared.Times.{Times}
 use Rattle.model.specs.Quiet.{bus_timeout, line_timeout, millisecond}
 use Rattle.model.specs.Host.{is_reply_time}
-use Rattle.firmware_layout.specs.Flags.{bit_of, is_bit, is_set}
+use Rattle.firmware_layout.specs.Flags.{bit_of, is_set}
 use Rattle.firmware_layout.specs.Controller.{flat_exchange, exchange_ours, flat_times, times_ours, flat_group}
 use Rattle.firmware_layout.specs.Controller.{group_ours, flat_device, device_ours, flat, ours}
 use Rattle.firmware_layout.specs.Kept.{Ours}
@@ -26,9 +26,10 @@ pub record RightTimes (t : Times) : Type 0 where
   pub chosen : is_reply_time t.chosen ≡ true
   pub adopted : is_reply_time t.adopted ≡ true
 
--- the device address is at most 4095
+-- the device address is at most 4095, and the status word is 0 while it is not set
 pub record RightDevice (d : Device) : Type 0 where
   pub address : d.address ≤ 4095
+  pub unset : d.set ≡ false → d.status ≡ 0
 
 -- times, both groups, the device and the phase are right; of the other parts nothing is asked
 pub record Right (c : Controller) : Type 0 where
@@ -80,7 +81,7 @@ device_right : (d : Device) → device_ours (flat_device d) ≡ true → RightDe
 device_right d e =
     let told = (and-eq-true_iff _ _).0 e in
     let flag = (and-eq-true_iff _ _).0 told.0 in
-    record { address = leb-true d.address 4095 flag.0 }
+    record { address = leb-true d.address 4095 flag.0; unset = unless_set d.set d.status told.1 }
 
 -- a controller of ours is right, part by part
 pub right : (c : Controller) → Ours c → Right c
@@ -117,11 +118,7 @@ group_ours_lem u g s =
     )
 
 device_ours_lem : (d : Device) → RightDevice d → device_ours (flat_device d) ≡ true
-device_ours_lem d r = rw (le-leb d.address 4095 r.address) (go d.status)
-  where
-    go : (o : Option ℕ) → (is_bit (bit_of (is_some o)) && (is_set (bit_of (is_some o)) || eqb (unwrap_or o 0) 0)) ≡ true
-    go None = refl
-    go (Some w) = refl
+device_ours_lem d r = rw (le-leb d.address 4095 r.address, bit_bit d.set, unless d.set d.status r.unset)
 
 -- a controller that is right part by part is one of ours
 pub ours_right : (c : Controller) → Right c → Ours c

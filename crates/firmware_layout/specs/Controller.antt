@@ -1,6 +1,6 @@
 -- The controller as numbers, both ways, and which numbers are a controller of ours. Each part has its own two conversions, with document
 -- 01's numbers for what is an enum in the controller. Assumes nothing.
-use Rattle.std.specs.Prelude.{ℕ, Bool, cond, ◌&&◌, ◌||◌, eqb, leb, ltb, None, Some, is_some, unwrap_or}
+use Rattle.std.specs.Prelude.{ℕ, Bool, cond, ◌&&◌, ◌||◌, eqb, leb, ltb}
 use Rattle.std.specs.Int.Bits.{bit_and}
 use Rattle.interrupts.specs.declared.Group.{Group}
 use Rattle.interrupts.specs.Group.{group}
@@ -89,10 +89,10 @@ group_ours u f =
 -- ---- the device
 
 abbrev pub flat_device : Device → FlatDevice
-flat_device d = record { address = d.address; set = bit_of (is_some d.status); status = unwrap_or d.status 0 }
+flat_device d = record { address = d.address; set = bit_of d.set; status = d.status }
 
 abbrev pub device_of : FlatDevice → Device
-device_of f = device f.address (cond (is_set f.set) (Some f.status) None)
+device_of f = device f.address (is_set f.set) f.status
 
 -- the status word is 0 unless it is set
 abbrev pub device_ours : FlatDevice → Bool

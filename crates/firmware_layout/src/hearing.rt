@@ -6,7 +6,8 @@ use crate::FlatHearing;
 use crate::flags::{is_bit, is_set};
 use frames::{Hearing, Kind};
 
-// Silence 0, noise 1, a master frame 2, a slave frame 3. No `From`: neither the kind nor the number is a type of this crate.
+// Silence 0, noise 1, a master frame 2, a slave frame 3. No `From`, here or below: the numbers are C's, and belong to this crate, of which neither the
+// kind nor the number is a type.
 pub fn kind_number(k: Kind) -> u16
     ensures { result ≡ kind_number k }
 {

@@ -185,8 +185,8 @@ impl From<Device> for FlatDevice {
     fn from(d: Device) -> FlatDevice {
         FlatDevice {
             address: d.address,
-            set: u16::from(d.status.is_some()),
-            status: d.status.unwrap_or(0),
+            set: u16::from(d.set),
+            status: d.status,
         }
     }
 }
@@ -197,7 +197,8 @@ impl From<FlatDevice> for Device {
     fn from(f: FlatDevice) -> Device {
         Device {
             address: f.address,
-            status: if is_set(f.set) { Some(f.status) } else { None },
+            set: is_set(f.set),
+            status: f.status,
         }
     }
 }

@@ -26,6 +26,10 @@ pub longest : (code n : ℕ) → expected_of code ≡ Some n → n ≤ 16
 unfolding expected_of sizes
 longest code n e = subst Fit e (fit_at sizes code (omega arith))
 
--- the contract of `reply_size`, as it stands, allows one result alone
+-- two answers that are both what an F-code expects are the same
+pub one_size : (code : ℕ) (x y : Option ℕ) → x ≡ expected_of code → y ≡ expected_of code → x ≡ y
+one_size code x y p q = p ∙ sym q
+
+-- so the contract of `reply_size`, as it stands, allows one result alone
 pub one_reply_size : (κs : _) (a : _) (r s : _) (e f : _) → reply-size-reads.Learnt κs a r e → reply-size-reads.Learnt κs a s f → r ≡ s
-one_reply_size κs a r s e f p q = p ∙ sym q
+one_reply_size κs a r s e f p q = one_size _ r s p q

@@ -54,9 +54,10 @@ pub const NO_WRONG: Wrong = Wrong {
     fourth: false,
 };
 
-// Not `Result<(), Wrong>`: "sound" and "unsound" are document 01's words, in which the theorems speak, and an unsound frame is no call that failed.
-//
 // A frame is sound, or it is not: then the blocks with a wrong check byte are marked if the counts were right, and none otherwise.
+//
+// Not `Result<(), Wrong>`: "sound" and "unsound" are document 01's words, in which the theorems speak (`sound_no_marks`), and an unsound frame is no call
+// that failed.
 #[derive(Clone, Copy)]
 pub enum Judgement {
     Sound,

@@ -32,7 +32,8 @@ pub fn set_status(c: Controller, w: u16) -> Controller
 {
     Controller {
         device: Device {
-            status: Some(w),
+            set: true,
+            status: w,
             ..c.device
         },
         ..c
@@ -120,7 +121,8 @@ pub fn reset() -> Controller
         group1: Group::new(USED_1),
         device: Device {
             address: 0,
-            status: None,
+            set: false,
+            status: 0,
         },
         phase: 0,
     }

@@ -49,7 +49,8 @@ const NO_WORDS: Words = Words {
 };
 
 // Opens port p at address a, as a sink or a source of this F-code, with a data transfer interrupt or 0, and a limit in milliseconds, 0 where
-// it is not supervised.
+// it is not supervised: as the port's words have them, and C. The six go side by side, as in `tolvendrum_open`: a struct for them would be taken apart
+// at once, and every contract names them one by one (`open_port`).
 pub fn open(
     index: &mut [u16],
     ports: &mut [u16],

@@ -35,6 +35,7 @@ pub fn of_open(
     if open_out(a, p, code, interrupt) {
         return Err(Refusal::Range);
     }
+    // 0 is no port, here and in `reach`: so the index table has it, which C lends.
     let e = layout::get(index, a as usize);
     if LAST_PORT < e {
         return Err(Refusal::Damaged);

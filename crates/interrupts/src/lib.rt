@@ -23,7 +23,7 @@ pub struct Group {
     pub frozen: bool,
 }
 
-// What was read, and the group afterwards.
+// What was read, and the group afterwards. (`host_controller::Reading` has the controller: one type for both would name neither.)
 #[derive(Clone, Copy)]
 pub struct Read {
     pub value: u16,

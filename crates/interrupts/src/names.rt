@@ -53,7 +53,7 @@ pub const USED_0: u16 = 0xffff;
 
 pub const USED_1: u16 = 0xff87;
 
-// Group 0 as document 01 lists it, from bit 15 down: the word of each bit.
+// Group 0 as document 01 lists it, from bit 15 down: the word of each bit. Not one function with `group1`, as is said there.
 pub fn group0() -> [u16; 16]
     ensures { result ≡ names0 }
 {
@@ -77,7 +77,7 @@ pub fn group0() -> [u16; 16]
     ]
 }
 
-// Group 1 likewise; 0 for a bit that is not used.
+// Group 1 likewise; 0 for a bit that is not used. Two lists of document 01, of which the theorems `group0_promised` and `group1_promised` speak one by one.
 pub fn group1() -> [u16; 16]
     ensures { result ≡ names1 }
 {

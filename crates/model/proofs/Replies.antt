@@ -4,7 +4,7 @@ use Prim.Native.Nat.{ℕ, zero, suc, ◌*◌, ◌%◌, ◌≤◌}
 use mathlib.Core.Path.{◌≡◌, refl, sym, ◌∙◌, ap}
 use mathlib.Core.Bool.{Bool, true, false, cond, not, ◌&&◌, and-eq-true_iff}
 use mathlib.Core.List.{List, [], ◌∷◌}
-use Rattle.std.specs.Prelude.{Option, None, Some, option_map}
+use Rattle.std.specs.Prelude.{Option, None, Some}
 use native.Mathlib.Omega.{arith}
 use lib.Dec.{eqb}
 use lib.ListN.{length, drop, replicate, length-drop, length-replicate}
@@ -22,7 +22,7 @@ use Rattle.model.specs.Ports.{code_of, address_of, has_ports, size_of, valid_pag
 use Rattle.model.specs.declared.Device.{Device}
 use Rattle.model.specs.declared.Lines.{Lines}
 use Rattle.model.specs.Lines.{status_with}
-use Rattle.model.specs.Event.{open_for, port_for, if_source, source_for, polls_us, device_with, own_words, status_words, if_expected, answer_to, sent}
+use Rattle.model.specs.Event.{open_for, port_for, if_source, source_for, polls_us, device_with, own_words, if_expected, answer_to, sent}
 use Rattle.model.specs.Calls.{Call}
 use Rattle.model.specs.Past.{Opening, opening_of, writes_since, last_of, fillings, source_told, last_settings, status_told, reply_told}
 use Rattle.model.proofs.ToldPort.{standing_with, told_standing}
@@ -134,14 +134,14 @@ answer_sound d m w s ws e = go (expected_of (code_of w)) refl (source_for m w) r
     go (Some n) ex (Some r) eo ei =
         let q : r ≡ ws = cc in
         sent_sound (code_of w) n ws ex (source_size m w s ws (eo ∙ ei) ∙ sized n ex)
-    go (Some n) ex None eo ei = status (eqb (code_of w) 15) refl (eqb (address_of w) d.address) d.status ei
+    go (Some n) ex None eo ei = status (eqb (code_of w) 15) refl (eqb (address_of w) d.address) d.set ei
       where
-        status : (b : Bool) → eqb (code_of w) 15 ≡ b → (c : Bool) (o : Option ℕ) → cond (b && c) (status_words o) None ≡ Some ws
+        status : (b : Bool) → eqb (code_of w) 15 ≡ b → (c k : Bool) → cond (b && c && k) (Some (d.status ∷ [])) None ≡ Some ws
             → judged_slave (code_of w) (sent ws) ≡ Sound
-        status true eb true (Some s) q =
-            let r : s ∷ [] ≡ ws = cc in
+        status true eb true true q =
+            let r : d.status ∷ [] ≡ ws = cc in
             sent_sound (code_of w) 1 ws (ap expected_of (eqb-true _ _ eb) ∙ poll_expects) (ap length (sym r))
-        status true eb true None q = absurd (silent q)
+        status true eb true false q = absurd (silent q)
         status true eb false k q = absurd (silent q)
         status false eb c k q = absurd (silent q)
 
@@ -149,7 +149,7 @@ answer_sound d m w s ws e = go (expected_of (code_of w)) refl (source_for m w) r
 
 -- the status word that the host set, if it set one
 abbrev pub status_now : Device → Option ℕ
-status_now d = d.status
+status_now d = cond d.set (Some d.status) None
 
 module _ (past : List Call) (d : Device) (m : Areas) (stands : (a : ℕ) → standing m a ≡ told_standing past a (opening_of past a)) where
   source_told_lem : (w : ℕ) → has_ports (code_of w) ≡ true → source_for m w ≡ source_told past w (opening_of past (address_of w))
@@ -200,11 +200,11 @@ module _ (past : List Call) (d : Device) (m : Areas) (stands : (a : ℕ) → sta
   status_told_lem w p e =
       let q = (and-eq-true_iff _ _).0 p in
       let c : code_of w ≡ 15 = eqb-true _ _ q.0 in
-      rw (c, poll_expects, q.0, q.1) (go d.status ∙ ap (status_told l) e)
+      rw (c, poll_expects, q.0, q.1) (go d.set ∙ ap (status_told l) e)
     where
-      go : (o : Option ℕ) → status_words (option_map (status_with l) o) ≡ status_told l o
-      go None = refl
-      go (Some s) = refl
+      go : (b : Bool) → cond b (Some (status_with l d.status ∷ [])) None ≡ status_told l (cond b (Some d.status) None)
+      go true = refl
+      go false = refl
 
   -- A sound master frame of any code is answered as the past tells, and not otherwise.
   pub exact_told : (w : ℕ) → status_now d ≡ (last_settings past).status → d.address ≡ (last_settings past).address

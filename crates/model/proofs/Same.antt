@@ -254,8 +254,8 @@ times_set (group1 g) c d e = e
 -- a setting leaves the same device where it was the same
 pub device_set : (t : Setting) (c d : Controller) → c.device ≡ d.device → (tell t c).device ≡ (tell t d).device
 unfolding tell
-device_set (address a) c d e = ap (λ (x : Device). device a x.status) e
-device_set (status w) c d e = ap (λ (x : Device). device x.address (Some w)) e
+device_set (address a) c d e = ap (λ (x : Device). device a x.set x.status) e
+device_set (status w) c d e = ap (λ (x : Device). device x.address true w) e
 device_set (reply_time n) c d e = e
 device_set (slm b) c d e = e
 device_set (ls b) c d e = e

@@ -3,8 +3,8 @@
 use Prim.Native.Nat.{ℕ, suc, ◌+◌, ◌-◌, ◌*◌, ◌/◌, ◌%◌, ◌^◌}
 use mathlib.Core.Path.{◌≡◌, refl, sym, ◌∙◌, ap}
 use mathlib.Core.Bool.{Bool, true, false, cond, not, ◌&&◌, ◌||◌}
-use mathlib.Core.List.{List}
-use Rattle.std.specs.Prelude.{Option, None, Some, option_map}
+use mathlib.Core.List.{List, [], ◌∷◌}
+use Rattle.std.specs.Prelude.{Option, None, Some}
 use native.Mathlib.Nat.{mod-lt, add-mul, mul_assoc, pow-succ'}
 use native.Mathlib.Numerals.{add-one}
 use native.Mathlib.Omega.{arith}
@@ -22,7 +22,7 @@ use Rattle.model.specs.Ports.{code_of}
 use Rattle.model.specs.Lines.{lines, with_rld, unless_slm, rule1, rule4, is_frame, is_poor, before_rule3, laa_bit, rld_bit, with_bit, status_with}
 use Rattle.model.specs.Lines.{LineBits}
 use Rattle.model.specs.Past.{asks_others}
-use Rattle.model.specs.Event.{source_for, polls_us, device_with, own_words, status_words, if_expected, answer_to, awaits, exchange_for}
+use Rattle.model.specs.Event.{source_for, polls_us, device_with, own_words, if_expected, answer_to, awaits, exchange_for}
 
 -- ---- one bit of a word replaced
 
@@ -131,12 +131,11 @@ module _ (l : Lines) (d : Device) (m : Areas) (w : ℕ) where
       go : (x : Option ℕ) (o : Option (List ℕ)) → f (if_expected x (own_words (device_with l d) w o)) ≡ f (if_expected x (own_words d w o))
       go None o = refl
       go (Some n) (Some ws) = refl
-      go (Some n) None = by (polls_us d w) d.status
+      go (Some n) None = by (polls_us d w && d.set)
         where
-          by : (b : Bool) (o : Option ℕ) → f (cond b (status_words (option_map (status_with l) o)) None) ≡ f (cond b (status_words o) None)
-          by true (Some s) = same _ _
-          by true None = refl
-          by false o = refl
+          by : (b : Bool) → f (cond b (Some (status_with l d.status ∷ [])) None) ≡ f (cond b (Some (d.status ∷ [])) None)
+          by true = same _ _
+          by false = refl
 
   -- The exchange after a sound master frame: done if we reply, whatever the reply tells.
   pub exchange_unmoved : exchange_for (device_with l d) m w ≡ exchange_for d m w

@@ -1,5 +1,5 @@
 -- Document 01, "What callers are told": what asking answers, and what stands at an address. Assumes nothing.
-use Rattle.std.specs.Prelude.{ℕ, Option, Result, Ok, Err}
+use Rattle.std.specs.Prelude.{ℕ, Option, None, Some, Result, Ok, Err}
 use Rattle.constants.specs.declared.refusals.Refusal.{Refusal}
 use Rattle.constants.specs.Refusal.{number}
 use Rattle.model.specs.declared.State.{State}

@@ -1,7 +1,7 @@
 -- Document 01, "What one bus event does": a hearing for line A and one for line B. Document 02, W-201: the lines in the reply to a status
 -- poll. Assumes nothing.
 use Rattle.std.specs.Prelude.{ℕ, ◌+◌, ◌%◌, Bool, true, false, cond, not, ◌&&◌, List, [], ◌∷◌, eqb, ltb, length, get_or, replicate}
-use Rattle.std.specs.Prelude.{Option, None, Some, option_map}
+use Rattle.std.specs.Prelude.{Option, None, Some}
 use Rattle.std.proofs.lemmas.List.Edits.{sets}
 use Rattle.sequence.specs.Frame.{frame_checks}
 use Rattle.frames.specs.declared.Kind.{Kind}
@@ -91,16 +91,11 @@ polls_us d w = eqb (code_of w) 15 && eqb (address_of w) d.address
 
 -- our device with these lines in its status word
 abbrev pub device_with : Lines → Device → Device
-device_with l d = record { address = d.address; status = option_map (status_with l) d.status }
-
--- the status word as the words of a reply, if the host set one
-abbrev pub status_words : Option ℕ → Option (List ℕ)
-status_words None = None
-status_words (Some s) = Some (s ∷ [])
+device_with l d = record { address = d.address; set = d.set; status = status_with l d.status }
 
 -- what we reply: the valid words of the source port, or the status word, if the host set one
 abbrev pub own_words : Device → ℕ → Option (List ℕ) → Option (List ℕ)
-own_words d w None = cond (polls_us d w) (status_words d.status) None
+own_words d w None = cond (polls_us d w && d.set) (Some (d.status ∷ [])) None
 own_words d w (Some ws) = Some ws
 
 abbrev pub if_expected : Option ℕ → Option (List ℕ) → Option (List ℕ)

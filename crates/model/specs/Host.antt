@@ -1,6 +1,6 @@
 -- Document 01, "Host calls on ports", "Quiet time" (reply times) and "Two lines": a fresh controller, and the host's settings of it.
 -- Assumes nothing.
-use Rattle.std.specs.Prelude.{ℕ, Bool, false, not, ◌||◌, eqb, ltb, Option, None, Some}
+use Rattle.std.specs.Prelude.{ℕ, Bool, true, false, not, ◌||◌, eqb, ltb}
 use Rattle.interrupts.specs.Group.{fresh}
 use Rattle.interrupts.specs.Names.{used0, used1}
 use Rattle.interrupts.specs.Calls.{Call as GroupCall, group_after}
@@ -13,8 +13,8 @@ use Rattle.model.specs.Parts.{with_times, with_lines, with_counts, with_group0, 
 use Rattle.model.specs.Quiet.{times, first_reply_time}
 pub use Rattle.model.specs.Parts.{controller}
 
-abbrev pub device : ℕ → Option ℕ → Device
-device a o = record { address = a; status = o }
+abbrev pub device : ℕ → Bool → ℕ → Device
+device a s w = record { address = a; set = s; status = w }
 
 abbrev pub counts : ℕ → ℕ → Counts
 counts f e = record { fc = f; ec = e }
@@ -22,7 +22,7 @@ counts f e = record { fc = f; ec = e }
 -- fresh, the exchange is idle with all times and counts 0, the phase too; the device address is first 0, and no status word is set
 unfoldable pub fresh_controller : Controller
 fresh_controller =
-    controller Idle (times 0 0 first_reply_time first_reply_time) fresh_lines (counts 0 0) (fresh used0) (fresh used1) (device 0 None) 0
+    controller Idle (times 0 0 first_reply_time first_reply_time) fresh_lines (counts 0 0) (fresh used0) (fresh used1) (device 0 false 0) 0
 
 -- what the host sets, and its calls on the two interrupt groups
 pub data Setting : Type 0 where
@@ -52,8 +52,8 @@ setting_out (group1 g) = false
 
 -- the controller after a setting
 unfoldable pub tell : Setting → Controller → Controller
-tell (address a) c = with_device (device a c.device.status) c
-tell (status w) c = with_device (device c.device.address (Some w)) c
+tell (address a) c = with_device (device a c.device.set c.device.status) c
+tell (status w) c = with_device (device c.device.address true w) c
 tell (reply_time t) c = with_times (times c.times.since c.times.line t c.times.adopted) c
 tell (slm b) c = with_lines (lines c.lines.laa c.lines.rld c.lines.ls b) c
 tell (ls b) c = with_lines (lines c.lines.laa c.lines.rld b c.lines.slm) c

@@ -44,10 +44,13 @@ pub struct Counts {
 }
 
 // The device address, and the status word where the host has set one.
+//
+// A flag beside the word, and no `Option`: the calls (`bus::calls::hear`) take every controller, also one that has a word which is not set.
 #[derive(Clone, Copy)]
 pub struct Device {
     pub address: u16,
-    pub status: Option<u16>,
+    pub set: bool,
+    pub status: u16,
 }
 
 #[derive(Clone, Copy)]

@@ -25,7 +25,8 @@ pub struct Listed {
     pub largest: u32,
 }
 
-// A value stored at a place of a buffer; nothing past the end.
+// A value stored at a place of a buffer; nothing past the end. `areas` has the same of its words: neither crate knows the other, and a third for these
+// lines would be no plainer.
 fn store<T: Copy>(into: &mut [T], at: usize, x: T)
     ensures { into.new ≡ set into.old at x }
 {

@@ -1,7 +1,6 @@
 // Text and numbers written into a lent buffer. Each function takes the place of the next byte and hands back the place after its own.
 //
-// Buffer and place go side by side: a struct that holds both would hold a lent buffer, and each contract would have to name its loan; and
-// there is no heap for one that owns it.
+// Buffer and place go side by side: a struct that holds both would hold a lent buffer, and each contract (`paper`, `onto`) would have to name its loan.
 ghost use Rattle.std.specs.Prelude.{◌≡◌, [], ◌∷◌, ◌<◌, true};
 ghost use Rattle.port_digits.specs.Write.{paper, onto, digit_at, decimal, commas, commas_from};
 
@@ -38,7 +37,7 @@ fn put_digit(out: &mut [u8], at: usize, v: u16, power: u16) -> usize
     put(out, at, (v / power % 10 + 48) as u8)
 }
 
-// A number in decimal, without leading zeros.
+// A number in decimal, without leading zeros. Not by `Display`: what is promised is bytes at a place of a lent buffer, and there is no heap for a `String`.
 pub fn put_number(out: &mut [u8], at: usize, v: u16) -> usize
     ensures { paper out.new result ≡ onto (paper out.old at) (decimal v) }
 {

@@ -1,20 +1,16 @@
 -- What a call of the host's on ports leaves, as the step of its line. Assumes nothing.
 use Rattle.std.proofs.Common.{ℕ, ◌≡◌, ap, List}
-use Rattle.std.specs.Prelude.{Option}
 use Rattle.port_digits.specs.Write.{paper, onto}
 use Rattle.model.specs.Layout.{Areas}
 use Rattle.model.specs.Event.{world}
 use Rattle.model.specs.Calls.{Call}
 use Rattle.host_ports.specs.Host.{Out, out, host_call}
-use Rattle.port_line.specs.declared.Stage.{Stage}
 use Rattle.port_line.specs.declared.Stepped.{Stepped}
-use Rattle.port_line.specs.declared.refusal.LineRefusal.{LineRefusal}
-use Rattle.port_line.specs.Refusal.{told_of}
 use Rattle.port_line.specs.Meaning.{setup, state, state_after, hosted, Ended, ended, ended_by}
 
 -- the promise of a call, with the stage that its line leaves, is the step of the line
-pub hosted_ended : (s : Stepped) (stage : Stage) (call : Call) (m after : Areas) (refusal : Option LineRefusal) (o : List ℕ)
-    → out after (told_of refusal) ≡ host_call call m
+pub hosted_ended : (s : Stepped) (stage : ℕ) (call : Call) (m after : Areas) (refusal : ℕ) (o : List ℕ)
+    → out after refusal ≡ host_call call m
     → let u = setup stage s.setup.addr s.setup.code s.setup.sink in
     ended after o (record { refusal = refusal; controller = s.controller; setup = u; at = s.at })
     ≡ ended_by (paper o s.at) (hosted call stage (state_after m s))

@@ -4,17 +4,16 @@ use Rattle.std.proofs.Common.{ℕ, ◌≡◌, sym, ◌∙◌, ap, List}
 use Rattle.model.specs.Layout.{areas, Areas}
 use Rattle.port_line.specs.declared.Stepped.{Stepped}
 use Rattle.port_line.specs.Meaning.{Ended, ended}
-use Rattle.port_line.proofs.Refusals.{with_told, told_back}
 use Rattle.port_line.proofs.step.step.Reads as step-reads
 
 -- what a line left, from what is promised of it
 abbrev left : Ended → Stepped
-left x = record { refusal = with_told x.refusal; controller = x.next.world.controller; setup = x.next.setup; at = x.out.at }
+left x = record { refusal = x.refusal; controller = x.next.world.controller; setup = x.next.setup; at = x.out.at }
 
 -- what is left, as one record, leaves no choice
 one_ended : {m k : Areas} {o p : List ℕ} {r s : Stepped} → ended m o r ≡ ended k p s → (r ≡ s) × (m ≡ k) × (o ≡ p)
 one_ended {m} {k} {o} {p} {r} {s} e =
-    (rw (told_back r.refusal, told_back s.refusal) at (ap left e), ap (λ (x : Ended). x.next.world.areas) e, ap (λ (x : Ended). x.out.text) e)
+    (ap left e, ap (λ (x : Ended). x.next.world.areas) e, ap (λ (x : Ended). x.out.text) e)
 
 -- So two results of one line are the same, and leave the same.
 pub one_step : (κs : _) (a : _) (r s : _) (e f : _) → step-reads.Learnt κs a r e → step-reads.Learnt κs a s f

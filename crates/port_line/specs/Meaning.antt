@@ -1,6 +1,6 @@
 -- Document 01, "Numbers on either side": what a line does. All setup lines come first, four for each port; the fourth opens it. A line
 -- that does not fit here is refused as a malformed one is. Assumes nothing.
-use Rattle.std.specs.Prelude.{ℕ, Bool, false, cond, ◌||◌, List, [], eqb, Option, None}
+use Rattle.std.specs.Prelude.{ℕ, Bool, false, cond, ◌||◌, List, [], eqb, Option}
 use Rattle.host_ports.specs.Host.{port_areas}
 use Rattle.port_digits.specs.Read.{cut}
 use Rattle.port_digits.specs.Write.{Paper, paper, onto}
@@ -8,23 +8,20 @@ use Rattle.model.specs.Layout.{Areas}
 use Rattle.model.specs.Event.{World, world}
 use Rattle.model.specs.Host.{fresh_controller}
 use Rattle.model.specs.Calls.{Call, hear, quiet, open_port, write_port, Outcome, outcome, port_refusal}
-use Rattle.port_line.specs.declared.Stage.{Stage}
-use Rattle.port_line.specs.declared.Stage.TheVariants.{Address, Code, Direction, Port, Events}
 use Rattle.port_line.specs.declared.Setup.{Setup}
 use Rattle.port_line.specs.declared.Stepped.{Stepped}
-use Rattle.port_line.specs.Refusal.{told_of}
 use Rattle.port_text.specs.Report.{reply_text}
 use Rattle.port_text.specs.Line.{Line, addr, fcode, index, dir, frame, quiet as quiet_line, write, malformed, numbered}
 
 -- ---- the state between two lines
 
--- what is said of the port that is being described, by its parts
-abbrev pub setup : Stage → ℕ → ℕ → Bool → Setup
+-- which setup line comes next: 0 the address, 1 the F-code, 2 the direction, 3 the port number; 4: events have begun
+abbrev pub setup : ℕ → ℕ → ℕ → Bool → Setup
 setup stage a code sink = record { stage = stage; addr = a; code = code; sink = sink }
 
 -- at first an address is due
 unfoldable pub fresh_setup : Setup
-fresh_setup = setup Address 0 0 false
+fresh_setup = setup 0 0 0 false
 
 -- the port that is being described, and the controller with the areas
 pub record State : Type 0 where
@@ -35,21 +32,13 @@ pub record State : Type 0 where
 abbrev pub state : Setup → World → State
 state u s = record { setup = u; world = s }
 
--- the stages in their order: the setup lines of a port, and then the events
-abbrev pub order : Stage → ℕ
-order Address = 0
-order Code = 1
-order Direction = 2
-order Port = 3
-order Events = 4
-
--- this stage is due
-abbrev pub due : Stage → Setup → Bool
-due t u = eqb (order u.stage) (order t)
+-- the setup line of this number comes next
+abbrev pub due : ℕ → Setup → Bool
+due n u = eqb u.stage n
 
 -- no port is described in part: an event may come, or the end
 abbrev pub whole : Setup → Bool
-whole u = due Address u || due Events u
+whole u = due 0 u || due 4 u
 
 -- ---- what a line does: the number of a refusal or 0, what is printed, and the state after it
 
@@ -73,10 +62,10 @@ describes ok u s = cond ok (step_with 0 [] (state u s.world)) (misplaced s)
 
 -- a call on the bus, after which only events may come
 abbrev pub answered : Outcome → Setup → Step
-answered o u = step_with o.refusal (reply_text o.reply) (state (setup Events u.addr u.code u.sink) o.world)
+answered o u = step_with o.refusal (reply_text o.reply) (state (setup 4 u.addr u.code u.sink) o.world)
 
 -- a call of the host's on ports
-abbrev pub hosted : Call → Stage → State → Step
+abbrev pub hosted : Call → ℕ → State → Step
 hosted c stage s =
     let u = s.setup in
     let m = s.world.areas in
@@ -84,14 +73,14 @@ hosted c stage s =
 
 -- each line by its kind: setup lines in their order, events and writes where no port is described in part
 unfoldable pub meaning : Line → State → Step
-meaning (addr n) s = describes (due Address s.setup) (setup Code n s.setup.code s.setup.sink) s
-meaning (fcode n) s = describes (due Code s.setup) (setup Direction s.setup.addr n s.setup.sink) s
-meaning (dir b) s = describes (due Direction s.setup) (setup Port s.setup.addr s.setup.code b) s
+meaning (addr n) s = describes (due 0 s.setup) (setup 1 n s.setup.code s.setup.sink) s
+meaning (fcode n) s = describes (due 1 s.setup) (setup 2 s.setup.addr n s.setup.sink) s
+meaning (dir b) s = describes (due 2 s.setup) (setup 3 s.setup.addr s.setup.code b) s
 meaning (index n) s =
-    cond (due Port s.setup) (hosted (open_port s.setup.addr n s.setup.code s.setup.sink 0 0) Address s) (misplaced s)
+    cond (due 3 s.setup) (hosted (open_port s.setup.addr n s.setup.code s.setup.sink 0 0) 0 s) (misplaced s)
 meaning (frame h) s = cond (whole s.setup) (answered (outcome (hear h h) s.world) s.setup) (misplaced s)
 meaning (quiet_line n) s = cond (whole s.setup) (answered (outcome (quiet n) s.world) s.setup) (misplaced s)
-meaning (write a ws) s = cond (whole s.setup) (hosted (write_port a ws) Events s) (misplaced s)
+meaning (write a ws) s = cond (whole s.setup) (hosted (write_port a ws) 4 s) (misplaced s)
 meaning malformed s = misplaced s
 
 -- a line that says a word
@@ -108,7 +97,7 @@ pub record Ended : Type 0 where
 
 -- before the first line
 abbrev pub begun : Stepped
-begun = record { refusal = None; controller = fresh_controller; setup = fresh_setup; at = 0 }
+begun = record { refusal = 0; controller = fresh_controller; setup = fresh_setup; at = 0 }
 
 -- what the next line finds
 abbrev pub state_after : Areas → Stepped → State
@@ -116,7 +105,7 @@ state_after m s = state s.setup (world s.controller m)
 
 -- a result of the code, with the areas and the bytes that it leaves
 abbrev pub ended : Areas → List ℕ → Stepped → Ended
-ended m o r = record { refusal = told_of r.refusal; next = state_after m r; out = paper o r.at }
+ended m o r = record { refusal = r.refusal; next = state_after m r; out = paper o r.at }
 
 -- what is said is written
 abbrev pub ended_by : Paper → Step → Ended

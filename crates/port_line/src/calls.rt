@@ -7,23 +7,37 @@ ghost use Rattle.port_text.specs.Line.{addr, fcode, dir, index as index_line, fr
 ghost use Rattle.port_line.specs.Meaning.{begun, whole, misplaced, describes, answered, worded, meaning};
 ghost use Rattle.port_line.specs.Meaning.{state_after, ended, ended_by};
 
-use crate::{LineRefusal, Setup, Stage, Stepped, refusal};
+use crate::{Setup, Stepped};
 use bus::Answered;
-use constants::Refusal;
+use constants::{Refusal, told};
 use frames::Hearing;
 use host_controller::settings;
 use port_digits::read;
 use port_text::{line, say};
+
+// A malformed line, or one out of its place.
+pub const TEXT: u16 = 7;
+
+// The setup line that is due; EVENTS where none is, because events have begun.
+const ADDRESS: u16 = 0;
+
+const CODE: u16 = 1;
+
+const DIRECTION: u16 = 2;
+
+const PORT: u16 = 3;
+
+const EVENTS: u16 = 4;
 
 // Before the first line: a fresh controller, and an address is due.
 pub fn begin() -> Stepped
     ensures { result ≡ begun }
 {
     Stepped {
-        refusal: None,
+        refusal: 0,
         controller: settings::reset(),
         setup: Setup {
-            stage: Stage::Address,
+            stage: ADDRESS,
             addr: 0,
             code: 0,
             sink: false,
@@ -36,17 +50,14 @@ pub fn begin() -> Stepped
 pub fn is_whole(u: Setup) -> bool
     ensures { result ≡ whole u }
 {
-    u.stage == Stage::Address || u.stage == Stage::Events
+    u.stage == ADDRESS || u.stage == EVENTS
 }
 
 // A malformed line, or one out of its place.
 pub fn misplace(s: Stepped) -> Stepped
     ensures { (m : Areas) (o : List ℕ) → ended m o result ≡ ended_by (paper o s.at) (misplaced (state_after m s)) }
 {
-    Stepped {
-        refusal: Some(LineRefusal::Text),
-        ..s
-    }
+    Stepped { refusal: TEXT, ..s }
 }
 
 // A setup line in its place, after which this much of the port is described.
@@ -54,7 +65,7 @@ fn describe(s: Stepped, setup: Setup) -> Stepped
     ensures { (m : Areas) (o : List ℕ) → ended m o result ≡ ended_by (paper o s.at) (describes true setup (state_after m s)) }
 {
     Stepped {
-        refusal: None,
+        refusal: 0,
         setup,
         ..s
     }
@@ -64,10 +75,10 @@ pub(crate) fn set_addr(s: Stepped, n: Option<u32>) -> Stepped
     ensures { (m : Areas) (o : List ℕ) → ended m o result ≡ ended_by (paper o s.at) (meaning (worded addr n) (state_after m s)) }
 {
     match n {
-        Some(v) if s.setup.is_due(Stage::Address) => describe(
+        Some(v) if s.setup.is_due(ADDRESS) => describe(
             s,
             Setup {
-                stage: Stage::Code,
+                stage: CODE,
                 addr: read::word(v),
                 ..s.setup
             },
@@ -80,10 +91,10 @@ pub(crate) fn set_code(s: Stepped, n: Option<u32>) -> Stepped
     ensures { (m : Areas) (o : List ℕ) → ended m o result ≡ ended_by (paper o s.at) (meaning (worded fcode n) (state_after m s)) }
 {
     match n {
-        Some(v) if s.setup.is_due(Stage::Code) => describe(
+        Some(v) if s.setup.is_due(CODE) => describe(
             s,
             Setup {
-                stage: Stage::Direction,
+                stage: DIRECTION,
                 code: read::word(v),
                 ..s.setup
             },
@@ -95,11 +106,11 @@ pub(crate) fn set_code(s: Stepped, n: Option<u32>) -> Stepped
 pub(crate) fn set_dir(s: Stepped, sink: bool) -> Stepped
     ensures { (m : Areas) (o : List ℕ) → ended m o result ≡ ended_by (paper o s.at) (meaning (dir sink) (state_after m s)) }
 {
-    if s.setup.is_due(Stage::Direction) {
+    if s.setup.is_due(DIRECTION) {
         describe(
             s,
             Setup {
-                stage: Stage::Port,
+                stage: PORT,
                 sink,
                 ..s.setup
             },
@@ -125,8 +136,8 @@ pub(crate) fn open(
 {
     let u = s.setup;
     match n {
-        Some(v) if u.is_due(Stage::Port) => Stepped {
-            refusal: refusal::of_call(host_ports::calls::open(
+        Some(v) if u.is_due(PORT) => Stepped {
+            refusal: told(&host_ports::calls::open(
                 index,
                 ports,
                 page0,
@@ -139,7 +150,7 @@ pub(crate) fn open(
                 0,
             )),
             setup: Setup {
-                stage: Stage::Address,
+                stage: ADDRESS,
                 ..u
             },
             ..s
@@ -166,7 +177,7 @@ pub(crate) fn write(
 {
     match n {
         Some(v) if v <= line::LAST_WORD && is_whole(s.setup) => Stepped {
-            refusal: refusal::of_call(host_ports::calls::write(
+            refusal: told(&host_ports::calls::write(
                 index,
                 ports,
                 page0,
@@ -175,7 +186,7 @@ pub(crate) fn write(
                 words,
             )),
             setup: Setup {
-                stage: Stage::Events,
+                stage: EVENTS,
                 ..s.setup
             },
             ..s
@@ -190,18 +201,18 @@ fn after_call(out: &mut [u8], s: Stepped, answer: Result<Answered, Refusal>) -> 
         ended m out.new result ≡ ended_by (paper out.old s.at) (answered (as_outcome s.controller m answer) s.setup) }
 {
     let setup = Setup {
-        stage: Stage::Events,
+        stage: EVENTS,
         ..s.setup
     };
     match answer {
         Ok(answered) => Stepped {
-            refusal: None,
+            refusal: 0,
             controller: answered.controller,
             setup,
             at: say::put_reply(out, s.at, answered.reply),
         },
         Err(refusal) => Stepped {
-            refusal: Some(LineRefusal::Call(refusal)),
+            refusal: u16::from(refusal),
             setup,
             ..s
         },

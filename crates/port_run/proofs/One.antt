@@ -3,7 +3,6 @@ use Rattle.std.proofs.Common.{ℕ, ◌≤◌, ◌≡◌, sym, ◌∙◌, ap, Lis
 use Rattle.port_digits.proofs.One.{one_paper}
 use Rattle.model.specs.Layout.{areas, Areas}
 use Rattle.port_line.specs.declared.Stepped.{Stepped}
-use Rattle.port_line.proofs.Refusals.{with_told, told_back}
 use Rattle.port_run.specs.declared.Feed.{Feed}
 use Rattle.port_run.specs.Fed.{Left, left}
 use Rattle.port_run.proofs.pieces.begin.Reads as begin-reads
@@ -24,7 +23,7 @@ one_rewind κs a r s e f p q = p ∙ sym q
 abbrev line_left : Left → Stepped
 line_left x =
     let s = x.next.state in
-    record { refusal = with_told x.next.refusal; controller = s.world.controller; setup = s.setup; at = x.out.at }
+    record { refusal = x.next.refusal; controller = s.world.controller; setup = s.setup; at = x.out.at }
 
 -- what is left as one record leaves no choice but behind the part of a line in its buffer
 one_left : {m k : Areas} (l h : List ℕ) {o q : List ℕ} (r s : Feed) {z : Left} → left m l o r ≡ z → left k h q s ≡ z
@@ -32,7 +31,7 @@ one_left : {m k : Areas} (l h : List ℕ) {o q : List ℕ} (r s : Feed) {z : Lef
     → (r ≡ s) × (m ≡ k) × (take r.partial l ≡ take s.partial h) × (o ≡ q)
 one_left {m} {k} l h {o} {q} r s x y i j =
     let e : left m l o r ≡ left k h q s = x ∙ sym y in
-    let lines : r.stepped ≡ s.stepped = rw (told_back r.stepped.refusal, told_back s.stepped.refusal) at (ap line_left e) in
+    let lines : r.stepped ≡ s.stepped = ap line_left e in
     let part : take r.partial l ≡ take s.partial h = ap (λ (z : Left). z.next.line) e in
     let n : r.partial ≡ s.partial = sym (length-take-le r.partial l i) ∙ ap length part ∙ length-take-le s.partial h j in (
       (λ t. record { stepped = lines t; partial = n t }),

@@ -5,7 +5,6 @@ use Rattle.port_digits.specs.Marks.{newline}
 use Rattle.port_digits.specs.Write.{Paper, paper, onto}
 use Rattle.model.specs.Calls.{start}
 use Rattle.model.specs.Layout.{Areas}
-use Rattle.port_line.specs.Refusal.{told_of}
 use Rattle.port_line.specs.Meaning.{State, state, fresh_setup, begun, state_after, meaning}
 use Rattle.port_text.specs.Report.{refused_text}
 use Rattle.port_run.specs.declared.Feed.{Feed}
@@ -101,7 +100,7 @@ rewound f =
 
 -- how things stand, by the areas, the buffer of the line and the code's record
 abbrev pub feeding_of : Areas → List ℕ → Feed → Feeding
-feeding_of m l f = feeding (state_after m f.stepped) (take f.partial l) (told_of f.stepped.refusal)
+feeding_of m l f = feeding (state_after m f.stepped) (take f.partial l) f.stepped.refusal
 
 -- what the code leaves of some bytes: how things stand, and the buffer of the output
 pub record Left : Type 0 where

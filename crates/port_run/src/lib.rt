@@ -7,14 +7,14 @@
 //
 // Each byte is looked at once for a newline. A line that lies whole in a piece is read where it lies; one that is cut goes into a buffer of
 // the caller's, whose length is the longest line that there is room for.
-#![tactic(auto, unfolding(crate::specs::Printed::end_text, port_digits::specs::Write::onto), using(port_line::proofs::Refusals::refused_line))]
+#![tactic(auto, unfolding(crate::specs::Printed::end_text, port_digits::specs::Write::onto))]
 
 pub mod pieces;
 
 use port_line::Stepped;
 
 // How things stand between two pieces: what the last line left, and how many bytes of a line that has not ended lie in its buffer. A refusal
-// stays, and nothing is worked after it.
+// stays, and nothing is worked after it. The buffer is the caller's, and lent anew with each piece: there is no heap for one of our own.
 #[derive(Clone, Copy)]
 pub struct Feed {
     pub stepped: Stepped,

@@ -1,9 +1,8 @@
 // The input, piece by piece.
-ghost use Rattle.std.specs.Prelude.{◌≡◌, List, [], ◌++◌, ℕ, ◌≤◌, length, take, None};
+ghost use Rattle.std.specs.Prelude.{◌≡◌, List, [], ◌++◌, ℕ, ◌≤◌, length, take};
 ghost use Rattle.port_digits.specs.Write.{paper, onto};
 ghost use Rattle.model.specs.Layout.{areas, Areas};
 ghost use Rattle.areas.specs.Lent.{lent};
-ghost use Rattle.port_line.specs.Refusal.{told_of};
 ghost use Rattle.port_line.specs.Meaning.{state_after};
 ghost use Rattle.port_text.specs.Line.{line_of};
 ghost use Rattle.port_run.specs.Printed.{line_in};
@@ -11,7 +10,7 @@ ghost use Rattle.port_run.specs.Fed.{stop_text, worked, unended, part_fed, fed_w
 
 use crate::Feed;
 use port_digits::{cut, write};
-use port_line::{LineRefusal, Stepped, calls, step};
+use port_line::{Stepped, calls, step};
 use port_text::{report, say};
 
 // Before the first piece.
@@ -46,12 +45,13 @@ fn after_line(out: &mut [u8], s: Stepped) -> Feed
     ensures leaves { (m : Areas) (l : List ℕ) →
         left m l out.new result ≡
         left_by (paper out.old s.at)
-        (fed_with (stop_text (told_of s.refusal)) (feeding (state_after m s) [] (told_of s.refusal))) }
+        (fed_with (stop_text s.refusal) (feeding (state_after m s) [] s.refusal)) }
     ensures no_part { result.partial ≡ 0 }
 {
-    let at = match s.refusal {
-        Some(refusal) => say::put_refused(out, s.at, u16::from(refusal)),
-        None => s.at,
+    let at = if s.refusal == 0 {
+        s.at
+    } else {
+        say::put_refused(out, s.at, s.refusal)
     };
     Feed {
         stepped: Stepped { at, ..s },
@@ -83,7 +83,7 @@ fn work(
 // A line that has not ended: its bytes go into the buffer, behind those that came before; one for which there is no room is refused.
 fn put_part(line: &mut [u8], out: &mut [u8], f: Feed, t: &[u8]) -> Feed
     requires part_lies_within { f.partial ≤ length line.old }
-    requires runs { f.stepped.refusal ≡ None }
+    requires runs { f.stepped.refusal ≡ 0 }
     ensures leaves { (m : Areas) →
         left m line.new out.new result ≡
         left_by (paper out.old f.stepped.at)
@@ -112,7 +112,7 @@ fn end_line(
     t: &[u8],
 ) -> Feed
     requires part_lies_within { f.partial ≤ length line.old }
-    requires runs { f.stepped.refusal ≡ None }
+    requires runs { f.stepped.refusal ≡ 0 }
     ensures leaves { left (areas index.new ports.new page0.new page1.new) line.new out.new result ≡
         left_by (paper out.old f.stepped.at)
         (worked (length line.old) (take f.partial line.old ++ t.now)
@@ -124,7 +124,7 @@ fn end_line(
         return work(index, ports, page0, page1, out, f.stepped, room, t);
     }
     let g = put_part(line, out, f, t);
-    if g.stepped.refusal.is_some() {
+    if g.stepped.refusal != 0 {
         return g;
     }
     work(
@@ -158,7 +158,7 @@ fn part(
         (feeding_of (areas index.old ports.old page0.old page1.old) line.old f) t.now ends) }
     ensures part_within { result.partial ≤ length line.old }
 {
-    if f.stepped.refusal.is_some() {
+    if f.stepped.refusal != 0 {
         f
     } else if ends {
         end_line(index, ports, page0, page1, line, out, f, t)
@@ -233,14 +233,14 @@ pub fn finish(
 ) -> usize
     ensures { paper out.new result ≡
         onto (paper out.old f.stepped.at)
-        (closing (told_of f.stepped.refusal) (state_after (lent index.entry ports.entry page0.entry page1.entry) f.stepped)) }
+        (closing f.stepped.refusal (state_after (lent index.entry ports.entry page0.entry page1.entry) f.stepped)) }
 {
     let s = f.stepped;
-    if s.refusal.is_some() {
+    if s.refusal != 0 {
         s.at
     } else if calls::is_whole(s.setup) {
         report::put_report(index, ports, page0, page1, out, s.at)
     } else {
-        say::put_refused(out, s.at, u16::from(LineRefusal::Text))
+        say::put_refused(out, s.at, calls::TEXT)
     }
 }

@@ -147,7 +147,7 @@ impl Session {
                 0 => return self.end(output),
                 n => self.work(output, &piece[..n])?,
             }
-            if self.feed.stepped.refusal.is_some() {
+            if self.feed.stepped.refusal != 0 {
                 return Ok(());
             }
         }

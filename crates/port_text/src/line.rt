@@ -89,7 +89,7 @@ fn frame(kind: Kind, one: bool, b: u8, v: &[u8]) -> Option<Hearing>
     }
 }
 
-// `WORD,CHECK`.
+// `WORD,CHECK`. A line over `frame`, as `slave` is: the two kinds of frame have names, and a caller that gave their constants would be no plainer.
 pub fn master(v: &[u8]) -> Option<Hearing>
     ensures { result ≡ frame_read MasterFrame true comma v.now }
 {

@@ -102,6 +102,7 @@ fn put_open(
     ensures { paper out.new result ≡
         onto (paper out.old at) (open_text (lent index.entry ports.entry page0.entry page1.entry) a) }
 {
+    // 0 is no port, as the index table has it.
     let p = layout::get(index, a as usize);
     if p == 0 {
         at

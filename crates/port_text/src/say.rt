@@ -43,7 +43,7 @@ pub fn put_listed(out: &mut [u8], at: usize, key: &[u8], vs: &[u16]) -> usize
     write::put(out, b, b'\n')
 }
 
-// `refused=N`.
+// `refused=N`; a number, as a line leaves it (`port_line::Stepped`).
 pub fn put_refused(out: &mut [u8], at: usize, n: u16) -> usize
     ensures { paper out.new result ≡ onto (paper out.old at) (refused_text n) }
 {

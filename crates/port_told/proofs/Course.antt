@@ -19,8 +19,6 @@ use Rattle.port_text.specs.Report.{reply_text}
 use Rattle.port_text.specs.Line.{Line, addr, fcode, index, dir, frame, quiet as quiet_line, write, malformed, numbered, dir_of, hearing_of}
 use Rattle.port_text.specs.Line.{frame_read, first_list, second_list, below, is_frame_text, framed, kept, written, write_of, line_as, key_of, line_of}
 use Rattle.port_line.specs.declared.Setup.{Setup}
-use Rattle.port_line.specs.declared.Stage.{Stage}
-use Rattle.port_line.specs.declared.Stage.TheVariants.{Address, Code, Direction, Port, Events}
 use Rattle.port_line.specs.Meaning.{State, state, Step, step_with, misplaced, setup, due, whole, answered, hosted, meaning}
 use Rattle.port_run.specs.Printed.{line_in}
 use Rattle.port_told.specs.Told.{call_in, added, line_refusal, setup_after, reply_said, replies_told}
@@ -126,7 +124,7 @@ module _ (u : Setup) (past : List Call) (run : Accepted past) where
 
   -- an event and quiet time
   on_bus_lem : (c : Call) → Typed c → reply_text (spoken (answer c (after past))) ≡ reply_said past (happening c)
-      → Does past (c ∷ past) (refusal c (after past)) (setup Events u.addr u.code u.sink) (answered (outcome c (after past)) u)
+      → Does past (c ∷ past) (refusal c (after past)) (setup 4 u.addr u.code u.sink) (answered (outcome c (after past)) u)
   unfolding outcome after replies_told reply_text silent
   on_bus_lem c typed spoke =
       record {
@@ -136,7 +134,7 @@ module _ (u : Setup) (past : List Call) (run : Accepted past) where
       }
 
   -- a call of the host's on ports, in which the controller plays no part
-  on_ports : (c : Call) (stage : Stage) → Typed c → reply_said past (happening c) ≡ []
+  on_ports : (c : Call) (stage : ℕ) → Typed c → reply_said past (happening c) ≡ []
       → port_refusal c (after past).areas ≡ refusal c (after past)
       → world (after past).controller (step c (fresh_over (after past).areas)).areas ≡ step c (after past)
       → Does past (c ∷ past) (refusal c (after past)) (setup stage u.addr u.code u.sink) (hosted c stage before)
@@ -155,12 +153,12 @@ module _ (u : Setup) (past : List Call) (run : Accepted past) where
   pub line_does : (l : Line) → TypedIn (call_in l u)
       → Does past (added (call_in l u) past) (line_refusal l u past) (setup_after l u) (meaning l before)
   unfolding meaning port_refusal refusal step effect answer reply_text silent
-  line_does (addr n) typed = placed (due Address u) _ (described (setup Code n u.code u.sink))
-  line_does (fcode n) typed = placed (due Code u) _ (described (setup Direction u.addr n u.sink))
-  line_does (dir sink) typed = placed (due Direction u) _ (described (setup Port u.addr u.code sink))
-  line_does (index n) typed = placed (due Port u) _ (on_ports _ Address typed refl refl refl)
+  line_does (addr n) typed = placed (due 0 u) _ (described (setup 1 n u.code u.sink))
+  line_does (fcode n) typed = placed (due 1 u) _ (described (setup 2 u.addr n u.sink))
+  line_does (dir sink) typed = placed (due 2 u) _ (described (setup 3 u.addr u.code sink))
+  line_does (index n) typed = placed (due 3 u) _ (on_ports _ 0 typed refl refl refl)
   line_does (frame h) typed =
       placed (whole u) _ (on_bus_lem (hear h h) typed (ap (λ (r : Option (List ℕ)). reply_text (spoken r)) (reply_told_lem past run h h)))
   line_does (quiet_line n) typed = placed (whole u) _ (on_bus_lem (quiet n) typed refl)
-  line_does (write a ws) typed = placed (whole u) _ (on_ports _ Events typed refl refl refl)
+  line_does (write a ws) typed = placed (whole u) _ (on_ports _ 4 typed refl refl refl)
   line_does malformed typed = out_of_place past

@@ -8,7 +8,6 @@ use Rattle.port_digits.proofs.Pasting.{written}
 use Rattle.model.specs.Calls.{cleared_areas, start}
 use Rattle.model.specs.Layout.{areas, Areas}
 use Rattle.areas.specs.Lent.{Slice, MutSlice, ◌&◌}
-use Rattle.port_line.specs.Refusal.{told_of}
 use Rattle.port_line.specs.Meaning.{state_after}
 use Rattle.port_run.specs.declared.Feed.{Feed}
 use Rattle.port_run.specs.Printed.{longest, printed}
@@ -96,9 +95,9 @@ module _ {m : Areas} (l : List ℕ) {k : List ℕ} (o : List ℕ) (f r : Feed) (
   fed_next q = ap (feeding_of m l) q ∙ ap (λ (y : Left). y.next) e
 
 -- what is printed last
-report_said : {m : Areas} {f : Feed} {w : List ℕ} → Reports m f w → f.stepped.at ≡ 0 → w ≡ closing (told_of f.stepped.refusal) (state_after m f.stepped)
+report_said : {m : Areas} {f : Feed} {w : List ℕ} → Reports m f w → f.stepped.at ≡ 0 → w ≡ closing f.stepped.refusal (state_after m f.stepped)
 report_said (finishes κs index ports page0 page1 out f r index' ports' page0' page1' out' left p short h) z =
-    let t = closing (told_of f.stepped.refusal) (state_after (areas index.now ports.now page0.now page1.now) f.stepped) in
+    let t = closing f.stepped.refusal (state_after (areas index.now ports.now page0.now page1.now) f.stepped) in
     text_printed out.now t r short (p ∙ ap (λ (n : ℕ). onto (paper out.now n) t) z) h
 
 -- what is printed is what is said of the pieces
@@ -160,8 +159,8 @@ close_roomy κs index ports page0 page1 line out f r index' ports' page0' page1'
 pub finish_roomy : (κs : _) (index ports page0 page1 : Slice) (out : MutSlice) (f : Feed) (r : ℕ) (index' ports' page0' page1' : Slice) (out' : MutSlice) (left : _)
     → finish-reads.Learnt κs (index & ports & page0 & page1 & out & f & tt) r (index' & ports' & page0' & page1' & out' & left)
     → f.stepped.at ≡ 0 → length out.now < last_place
-    → length (closing (told_of f.stepped.refusal) (state_after (areas index.now ports.now page0.now page1.now) f.stepped)) ≤ length out.now
+    → length (closing f.stepped.refusal (state_after (areas index.now ports.now page0.now page1.now) f.stepped)) ≤ length out.now
     → r ≤ length out'.now
 finish_roomy κs index ports page0 page1 out f r index' ports' page0' page1' out' left p z short h =
-    let t = closing (told_of f.stepped.refusal) (state_after (areas index.now ports.now page0.now page1.now) f.stepped) in
+    let t = closing f.stepped.refusal (state_after (areas index.now ports.now page0.now page1.now) f.stepped) in
     place_within out.now t r short (p ∙ ap (λ (n : ℕ). onto (paper out.now n) t) z) h

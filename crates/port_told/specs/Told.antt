@@ -13,7 +13,6 @@ use Rattle.port_text.specs.Words.{w_state, w_fills, w_blocks, w_data, w_never, w
 use Rattle.port_text.specs.Report.{line_text, blocks_text, setup_text, refused_text, reply_text}
 use Rattle.port_text.specs.Line.{Line, addr, fcode, index, dir, frame, quiet as quiet_line, write, malformed}
 use Rattle.port_line.specs.declared.Setup.{Setup}
-use Rattle.port_line.specs.declared.Stage.TheVariants.{Address, Code, Direction, Port, Events}
 use Rattle.port_line.specs.Meaning.{setup, fresh_setup, due, whole}
 use Rattle.port_run.specs.Printed.{text_lines, longest, line_in}
 
@@ -38,10 +37,10 @@ added (Some c) past = c ∷ past
 
 -- a line stands in its place: setup lines in their order, events and writes where no port is described in part
 abbrev pub in_place : Line → Setup → Bool
-in_place (addr n) u = due Address u
-in_place (fcode n) u = due Code u
-in_place (dir sink) u = due Direction u
-in_place (index n) u = due Port u
+in_place (addr n) u = due 0 u
+in_place (fcode n) u = due 1 u
+in_place (dir sink) u = due 2 u
+in_place (index n) u = due 3 u
 in_place (frame h) u = whole u
 in_place (quiet_line n) u = whole u
 in_place (write a ws) u = whole u
@@ -58,13 +57,13 @@ line_refusal l u past = cond (in_place l u) (call_refusal (call_in l u) past) 7
 
 -- which setup line is due after a line, and what the setup lines so far said; after an event only events and writes may come
 abbrev pub setup_after : Line → Setup → Setup
-setup_after (addr n) u = setup Code n u.code u.sink
-setup_after (fcode n) u = setup Direction u.addr n u.sink
-setup_after (dir sink) u = setup Port u.addr u.code sink
-setup_after (index n) u = setup Address u.addr u.code u.sink
-setup_after (frame h) u = setup Events u.addr u.code u.sink
-setup_after (quiet_line n) u = setup Events u.addr u.code u.sink
-setup_after (write a ws) u = setup Events u.addr u.code u.sink
+setup_after (addr n) u = setup 1 n u.code u.sink
+setup_after (fcode n) u = setup 2 u.addr n u.sink
+setup_after (dir sink) u = setup 3 u.addr u.code sink
+setup_after (index n) u = setup 0 u.addr u.code u.sink
+setup_after (frame h) u = setup 4 u.addr u.code u.sink
+setup_after (quiet_line n) u = setup 4 u.addr u.code u.sink
+setup_after (write a ws) u = setup 4 u.addr u.code u.sink
 setup_after malformed u = u
 
 -- what an input comes to: the calls that its lines made, the newest first, and the number at which it was refused, 0 if it was not

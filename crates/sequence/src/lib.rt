@@ -23,7 +23,7 @@ const BLOCK: usize = 4;
 const LONGEST: usize = 16;
 
 // The check bytes of a frame, as many as `count` says; the others are 0. A frame with no words or more than sixteen has none.
-// An array and a number: there is no heap, and this is what C is handed.
+// An array and a number beside it: what is promised (`frame_checks`) names both, and the bytes behind the last are zero.
 #[derive(Clone, Copy)]
 pub struct FrameChecks {
     pub count: usize,

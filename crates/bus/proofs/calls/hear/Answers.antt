@@ -1,6 +1,7 @@
 -- `bus::calls::hear`: the outcome of an accepted event, or of a refused one. Assumes nothing.
 use Rattle.std.proofs.Common.{◌≡◌, ◌∙◌, sym, ap, Ok}
 use Rattle.std.proofs.lemmas.Result.{err_from_is_err_and}
+use Rattle.constants.proofs.Numbers.{refused_number}
 use Rattle.model.specs.Layout.{areas}
 use Rattle.model.specs.Event.{world, heard_by}
 use Rattle.model.specs.Calls.{word_of_heard}
@@ -15,7 +16,7 @@ returns-in_err-found c =
     let s = world a.c (areas a.index.now a.ports.now a.page0.now a.page1.now) in
     let p = err_from_is_err_and c.from_residual.result c.from_residual.ensures.1 in
     let number = rw (c.is_out-out.ensures, c.fits-fit.ensures, c.sought_heard.ensures, c.heard-h.ensures, c.trusted-t.ensures) at c.in_err-found.ensures.number in
-    rw (p.1, p.2) (sym (call_refused _ s _ (number ∙ hear_refused s a.a a.b)))
+    rw (p.1, p.2) (sym (call_refused _ s _ (number ∙ hear_refused s a.a a.b) (refused_number _)))
 
 pub returns : goal.returns
 unfolding heard_by

@@ -6,14 +6,14 @@ use Rattle.model.specs.Calls.{Outcome, hear}
 use Rattle.firmware_layout.specs.Controller.{ours}
 use Rattle.firmware_layout.specs.Hearing.{hearing_of, formed}
 use Rattle.firmware.proofs.Short.{Small, reply_small}
-use Rattle.firmware.proofs.Through.{first_of_three, taken, turned}
+use Rattle.firmware.proofs.Through.{first_of_three, taken, turned_by}
 use Rattle.firmware.proofs.bus_calls.tolvendrum_hear.Goals as goal
 
 pub returns-in-Err : goal.returns-in-Err
 returns-in-Err c =
     let a = c.args in
     let m = areas a.index.now a.ports.now a.page0.now a.page1.now in
-    rw c.turn_away.ensures (turned (ours a.c && formed a.a && formed a.b) (hear (hearing_of a.a) (hearing_of a.b)) _ a.c m _ (rw c.with_hearings-given.ensures at c.in-Err.ensures) (first_of_three (ours a.c) (formed a.a) (formed a.b)) refl)
+    rw c.turn_away.ensures (turned_by (ours a.c && formed a.a && formed a.b) (hear (hearing_of a.a) (hearing_of a.b)) _ a.c m _ (rw c.with_hearings-given.ensures at c.in-Err.ensures) (first_of_three (ours a.c) (formed a.a) (formed a.b)) refl)
 
 pub flat_answered-requires : goal.flat_answered-requires
 flat_answered-requires c r is =

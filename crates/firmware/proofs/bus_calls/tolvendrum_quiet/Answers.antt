@@ -5,14 +5,14 @@ use Rattle.model.specs.Event.{world}
 use Rattle.model.specs.Calls.{Outcome, quiet}
 use Rattle.firmware_layout.specs.Controller.{ours}
 use Rattle.firmware.proofs.Short.{Small, reply_small}
-use Rattle.firmware.proofs.Through.{taken, turned}
+use Rattle.firmware.proofs.Through.{taken, turned_by}
 use Rattle.firmware.proofs.bus_calls.tolvendrum_quiet.Goals as goal
 
 pub returns-in-Err : goal.returns-in-Err
 returns-in-Err c =
     let a = c.args in
     let m = areas a.index.now a.ports.now a.page0.now a.page1.now in
-    rw c.turn_away.ensures (turned (ours a.c) (quiet a.n) _ a.c m _ (rw c.is_ours.ensures at c.in-Err.ensures) (λ e. e) refl)
+    rw c.turn_away.ensures (turned_by (ours a.c) (quiet a.n) _ a.c m _ (rw c.is_ours.ensures at c.in-Err.ensures) (λ e. e) refl)
 
 pub flat_answered-requires : goal.flat_answered-requires
 flat_answered-requires c r is =

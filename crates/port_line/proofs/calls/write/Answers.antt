@@ -1,7 +1,6 @@
 -- `calls::write` writes where the address is a word and no port is described in part. Assumes nothing.
 use Rattle.std.proofs.Common.{◌≡◌, refl, sym, ◌∙◌, le-leb, le-ltb}
 use Rattle.std.proofs.lemmas.Bool.{lt-leb}
-use Rattle.port_line.specs.declared.Stage.TheVariants.{Events}
 use Rattle.port_line.specs.Meaning.{meaning}
 use Rattle.port_line.proofs.Hosting.{hosted_ended}
 use Rattle.port_line.proofs.calls.write.Goals.{in_default-via-in-Some+then-v-le-LAST_WORD+else-is_whole, in_default-via-in-Some+else-v-le-LAST_WORD, in_default-via-in_default}
@@ -14,7 +13,7 @@ returns-in-Some c =
     let v = c.in-Some.v in
     let word : c.word.result ≡ v = c.word.ensures ∙ rw (le-ltb 65535 v c.if-v-le-LAST_WORD.true) refl in
     rw (c.in-Some.is, le-leb v 65535 c.if-v-le-LAST_WORD.true, sym c.is_whole.ensures ∙ c.if-is_whole.true)
-    (hosted_ended c.args.s Events _ _ _ _ o (rw (← c.of_call.ensures, word) at c.write.ensures))
+    (hosted_ended c.args.s 4 _ _ _ _ o (rw (← c.told.ensures, word) at c.write.ensures))
 
 pub returns-in_default : goal.returns-in_default
 unfolding meaning

@@ -2,7 +2,6 @@
 use Rattle.std.proofs.Common.{ℕ, ◌≡◌, ◌∙◌, sym, ap, true, false, List, [], eqb, eq-eqb, ne_eqb, length, take, length-take}
 use Rattle.model.specs.Layout.{areas}
 use Rattle.port_digits.specs.Write.{paper, onto}
-use Rattle.port_line.specs.Refusal.{told_of}
 use Rattle.port_line.specs.Meaning.{state_after}
 use Rattle.port_run.specs.Fed.{feeding, part_fed, left_by}
 use Rattle.port_run.proofs.Leaving.{take_cut, last_ended}
@@ -40,5 +39,5 @@ returns-clause-leaves c =
     let p = paper a.out.now a.f.stepped.at in
     let some : eqb (length (take (partial cut) l)) 0 ≡ false = rw (counted cut) (ne_eqb _ _ c.if-partial-eq0.false) in
     c.part.ensures.leaves
-    ∙ ap (λ (k : List ℕ). left_by p (part_fed (length l) (feeding s k (told_of a.f.stepped.refusal)) [] true)) (same cut)
-    ∙ ap (left_by p) (last_ended (length l) (feeding s (take (partial cut) l) (told_of a.f.stepped.refusal)) some)
+    ∙ ap (λ (k : List ℕ). left_by p (part_fed (length l) (feeding s k a.f.stepped.refusal) [] true)) (same cut)
+    ∙ ap (left_by p) (last_ended (length l) (feeding s (take (partial cut) l) a.f.stepped.refusal) some)

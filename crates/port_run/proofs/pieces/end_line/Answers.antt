@@ -2,7 +2,6 @@
 use Rattle.std.proofs.Common.{ℕ, ◌≡◌, ◌∙◌, ap, eqb, true, List, ◌++◌, length, take, rules}
 use Rattle.port_digits.specs.Write.{Paper, paper, onto}
 use Rattle.model.specs.Layout.{areas, Areas}
-use Rattle.port_line.specs.Refusal.{told_of}
 use Rattle.port_line.specs.Meaning.{State, state_after}
 use Rattle.port_run.specs.Fed.{worked, Left, left_by}
 use Rattle.port_run.proofs.Leaving.{waits}
@@ -30,6 +29,6 @@ pub returns-clause-leaves : goal.returns-clause-leaves
 unfolding onto
 returns-clause-leaves c =
     let put = (goal.at.returns-clause-leaves c).After-put_part-g in
-    let runs : eqb (told_of c.put_part-g.result.stepped.refusal) 0 ≡ true = search rules in
+    let runs : eqb c.put_part-g.result.stepped.refusal 0 ≡ true = search rules in
     let waiting = waits (room put) (whole put) (state put) (output put) (c.put_part-g.ensures.leaves (memory put)) runs in
     c.work-2.ensures.leaves _ ∙ ap (λ (x : Left). left_by x.out (worked (room put) x.next.line x.next.state)) waiting

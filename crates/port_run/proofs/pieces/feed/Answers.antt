@@ -4,7 +4,6 @@ use Rattle.std.proofs.lemmas.Fn.{always_returns_same}
 use Rattle.port_digits.specs.Marks.{newline}
 use Rattle.port_digits.specs.Write.{paper, onto}
 use Rattle.model.specs.Layout.{areas}
-use Rattle.port_line.specs.Refusal.{told_of}
 use Rattle.port_line.specs.Meaning.{state_after}
 use Rattle.port_run.specs.Fed.{feeding, fed, feeding_of, left_by}
 use Rattle.port_run.proofs.Leaving.{take_cut, no_bytes}
@@ -54,4 +53,4 @@ returns-clause-leaves c =
     let p = paper a.out.now a.f.stepped.at in
     let same = take_cut a.f.partial c.min-partial.result l₀ c.min-partial.ensures in
     rw (no_bytes l.t-iterator.rest.now (search (rules, tests))) at l.invariant.left
-    ∙ ap (λ (k : List ℕ). left_by p (fed (length l₀) (feeding s k (told_of a.f.stepped.refusal)) a.piece.now)) same
+    ∙ ap (λ (k : List ℕ). left_by p (fed (length l₀) (feeding s k a.f.stepped.refusal) a.piece.now)) same
