@@ -88,10 +88,11 @@ pub fn tolvendrum_quiet(
     flat_answered(x, calls::quiet(index, ports, page0, page1, x, n))
 }
 
-// The check bytes of a frame. No `From`: this is the one place, and its contract is that of the call.
+// The check bytes of a frame.
 pub fn tolvendrum_checks(words: &[u16]) -> FlatChecks
     ensures { result ≡ flat_checks words.now }
 {
+    // No `From`: this is the one place, and its contract is that of the call.
     let f = sequence::frame_checks(words);
     let bytes = f.bytes;
     FlatChecks {

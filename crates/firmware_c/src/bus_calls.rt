@@ -43,7 +43,7 @@ pub extern "C" fn tolvendrum_quiet(
     firmware::bus_calls::tolvendrum_quiet(index, ports, page0, page1, c, n)
 }
 
-// The check bytes of a frame. No `From`: this is the one place, and its contract is that of the call.
+// The check bytes of a frame.
 #[unsafe(no_mangle)]
 pub extern "C" fn tolvendrum_checks(words: &[u16]) -> FlatChecks
     ensures { result ≡ flat_checks words.now }
