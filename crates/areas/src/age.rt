@@ -32,11 +32,14 @@ fn age_port(ports: &mut [u16], p: u16, k: u32)
     }
 }
 
-// Ports 1 to 255, k milliseconds later.
+// Ports 1 to 255, k milliseconds later. Three in a round, which their number allows, take less time than one.
 pub fn age_ports(ports: &mut [u16], k: u32)
     ensures { ports.new ≡ aged_to 255 k ports.old }
 {
-    for p in 1..=constants::LAST_PORT {
-        age_port(ports, p, k);
+    for round in 0..constants::LAST_PORT / 3 {
+        let before = 3 * round;
+        age_port(ports, before + 1, k);
+        age_port(ports, before + 2, k);
+        age_port(ports, before + 3, k);
     }
 }

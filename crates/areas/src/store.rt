@@ -58,7 +58,7 @@ fn fill_words(w: Words) -> Words
 {
     Words {
         flags: layout::word_of(turn(layout::flags_of(w.flags))),
-        fills: w.fills.wrapping_add(1),
+        fills: ((u32::from(w.fills) + 1) % constants::FILLS) as u16,
         age: 0,
         ..w
     }

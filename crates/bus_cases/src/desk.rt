@@ -86,12 +86,9 @@ impl Desk {
 
     // The event, so many times, and at least once. The last answer is printed, with the words and check bytes of its reply.
     fn hear(&mut self, rt: &impl Print, times: u32) -> io::Result<()> {
-        let answer = self.memory.hear(self.controller, self.a, self.b);
-        let mut reply = self.take(answer);
-        for _ in 1..times {
-            let answer = self.memory.hear(self.controller, self.a, self.b);
-            reply = self.take(answer);
-        }
+        let reply = self
+            .memory
+            .hear(&mut self.controller, self.a, self.b, times);
         match reply {
             Ok(frame) if frame.kind == Kind::Slave => {
                 let words = &frame.words[..frame.size.min(16)];

@@ -31,15 +31,15 @@ mod show;
 mod spaced;
 
 use arrayvec::ArrayVec;
-use std::io;
+use std::io::{self, Read};
 
 // The length of the buffer; make.py reads it here. Where the input fills it, more of it may follow.
 const ROOM: usize = 262144;
 
 fn main(rt: HostRuntime) {
     let mut input = ArrayVec::<u8, ROOM>::new();
-    // Where a read fails, or the buffer is full, the buffer has what came until then.
-    let _ = io::copy(&mut rt.stdin(), &mut input);
+    // No more is read than there is room for. Where a read fails, the buffer has what came until then.
+    let _ = io::copy(&mut rt.stdin().take(ROOM as u64), &mut input);
     if input.is_full() {
         let _ = println!(rt; "input too long");
         return;

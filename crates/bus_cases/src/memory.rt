@@ -2,6 +2,7 @@
 use crate::command::Opening;
 use areas::layout::{get, get_port, put};
 use bus::Answered;
+use bus_ports::frame::SILENT;
 use constants::Refusal;
 use frames::Hearing;
 use model::{Controller, State, Words};
@@ -133,19 +134,36 @@ impl Memory {
         host_ports::calls::fetch(index, ports, page0, page1, address)
     }
 
+    // The event, so many times, and at least once: an accepted one leaves another controller, and the reply is the last one's. Once one is refused the
+    // others are too, since nothing changes any more. Called in one place alone, `bus::calls::hear` is put into the loop by the compiler.
     pub(crate) fn hear(
         &mut self,
-        controller: Controller,
+        controller: &mut Controller,
         a: Hearing,
         b: Hearing,
-    ) -> Result<Answered, Refusal> {
+        times: u32,
+    ) -> Result<Hearing, Refusal> {
         let Lent {
             index,
             ports,
             page0,
             page1,
         } = self.lent();
-        bus::calls::hear(index, ports, page0, page1, controller, a, b)
+        let mut answered = Answered {
+            controller: *controller,
+            reply: SILENT,
+        };
+        for _ in 0..times.max(1) {
+            match bus::calls::hear(index, ports, page0, page1, answered.controller, a, b) {
+                Ok(next) => answered = next,
+                Err(refusal) => {
+                    *controller = answered.controller;
+                    return Err(refusal);
+                }
+            }
+        }
+        *controller = answered.controller;
+        Ok(answered.reply)
     }
 
     pub(crate) fn quiet(

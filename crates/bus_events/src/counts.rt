@@ -4,6 +4,7 @@ ghost use Rattle.model.proofs.Tables.{is_counted, counts_after};
 ghost use Rattle.bus_events.specs.Counts.{unsound};
 
 use crate::heard::is_sound;
+use constants::LAST_EC;
 use model::{Counts, Heard};
 
 // A frame was judged.
@@ -35,7 +36,7 @@ pub fn counts_after(n: Counts, h: Heard) -> Counts
             n.fc
         },
         ec: if unsound(h) {
-            n.ec.saturating_add(1)
+            n.ec.saturating_add(1).min(LAST_EC)
         } else {
             n.ec
         },

@@ -56,6 +56,9 @@ pub const PAGE_WORDS: usize = 16;
 // A master word is F-code x 4096 + address.
 pub const CODE_UNIT: u16 = 4096;
 
+// Fills are counted modulo 65,536.
+pub const FILLS: u32 = 65536;
+
 // The weights of the flags in word 1: the sides, the status bits, among them the marks of the blocks, and the first bit that is always zero.
 pub const VP: u16 = 1;
 

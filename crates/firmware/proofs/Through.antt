@@ -67,6 +67,15 @@ first_of_three a b c e = ((and-eq-true_iff a b).0 ((and-eq-true_iff (a && b) c).
 no_refusal : (e : Refusal) → number e ≡ 0 → ⊥
 no_refusal e z = true≢false (sym (eq-eqb _ _ z) ∙ refused_number e)
 
+-- what is let in is given
+pub admitted_given : (given : Bool) (m : Areas) → 0 ≡ admitted given m → given ≡ true
+admitted_given given m z = go (areas_fit m) given z
+  where
+    go : (fit given : Bool) → ◌≡◌ {A = ℕ} 0 (cond fit (cond given 0 2) 1) → given ≡ true
+    go fit true z = refl
+    go true false z = absurd (omega arith)
+    go false false z = absurd (omega arith)
+
 -- a call that is let in gives the call's outcome
 pub taken : (given : Bool) (c : Call) (x : Controller) (f : FlatController) (m : Areas) (o : Outcome) → 0 ≡ admitted given m
     → x ≡ controller_of f → o ≡ outcome c (world x m) → flat_outcome o ≡ through given c f m

@@ -1,12 +1,12 @@
 // Bus events and quiet time (document 01, "What one bus event does" and "Quiet time"), and the check bytes of a frame that a host sends.
-ghost use Rattle.std.specs.Prelude.{◌≡◌, ◌&&◌, ◌≤◌};
+ghost use Rattle.std.specs.Prelude.{◌≡◌, true, ◌&&◌, ◌≤◌};
 ghost use Rattle.std.specs.Result.{ForOk};
 ghost use Rattle.constants.specs.Refusal.{number};
 ghost use Rattle.model.specs.Layout.{areas, Areas};
 ghost use Rattle.model.specs.Event.{silent};
 ghost use Rattle.model.specs.Calls.{hear, quiet};
 ghost use Rattle.bus.specs.Promise.{as_outcome};
-ghost use Rattle.firmware_layout.specs.Controller.{flat, ours};
+ghost use Rattle.firmware_layout.specs.Controller.{controller_of, ours};
 ghost use Rattle.firmware_layout.specs.Hearing.{flat_hearing, hearing_of, formed};
 ghost use Rattle.firmware.specs.Promise.{answers, leaves, flat_outcome, through, flat_checks};
 
@@ -19,10 +19,11 @@ use firmware_layout::{FlatController, FlatHearing};
 use frames::Hearing;
 use model::Controller;
 
-// What a call with the controller x answered.
-fn flat_answered(x: Controller, answer: Result<Answered, Refusal>) -> FlatAnswered
-    requires { ForOk answer (λ r. (r.reply.size ≤ 16) × (r.reply.ends ≤ 4)) }
-    ensures { (m : Areas) → leaves m result ≡ flat_outcome (as_outcome x m answer) }
+// What a call answered that was given the controller of these numbers. A refused one hands them back as they were given.
+fn flat_answered(c: FlatController, answer: Result<Answered, Refusal>) -> FlatAnswered
+    requires small { ForOk answer (λ r. (r.reply.size ≤ 16) × (r.reply.ends ≤ 4)) }
+    requires given { ours c ≡ true }
+    ensures { (m : Areas) → leaves m result ≡ flat_outcome (as_outcome (controller_of c) m answer) }
 {
     match answer {
         Ok(r) => FlatAnswered {
@@ -30,7 +31,7 @@ fn flat_answered(x: Controller, answer: Result<Answered, Refusal>) -> FlatAnswer
             controller: FlatController::from(r.controller),
             reply: reply::flat_hearing(r.reply),
         },
-        Err(refusal) => turn_away(refusal, FlatController::from(x)),
+        Err(refusal) => turn_away(refusal, c),
     }
 }
 
@@ -66,7 +67,7 @@ pub fn tolvendrum_hear(
     let x = Controller::from(c);
     let on_a = Hearing::from(a);
     let on_b = Hearing::from(b);
-    flat_answered(x, calls::hear(index, ports, page0, page1, x, on_a, on_b))
+    flat_answered(c, calls::hear(index, ports, page0, page1, x, on_a, on_b))
 }
 
 // Quiet bit times, n of them.
@@ -85,7 +86,7 @@ pub fn tolvendrum_quiet(
         return turn_away(refusal, c);
     }
     let x = Controller::from(c);
-    flat_answered(x, calls::quiet(index, ports, page0, page1, x, n))
+    flat_answered(c, calls::quiet(index, ports, page0, page1, x, n))
 }
 
 // The check bytes of a frame.

@@ -2,8 +2,7 @@
 use Rattle.std.proofs.Common.{ℕ, suc, ◌+◌, ◌<◌, ◌≤◌, ◌-◌, min, ◌≡◌, refl, ◌∙◌, ap, List, [], ◌∷◌, ◌++◌, Bool, true, false, cond, add-zero, add-suc, suc-add, add-one, arith, le-ltb, ltb-true, ltb-false, ltb, length, get_or, set, take, drop, length-set, drop-cons, take_all}
 use Rattle.std.proofs.Math.Seq.{sets, set_out}
 use Rattle.port_digits.specs.Read.{cut}
-use Rattle.port_digits.specs.Write.{Paper, paper, last_place, next_place, with_byte, onto, decimal, commas_from, commas}
-use Rattle.port_digits.specs.Marks.{comma}
+use Rattle.port_digits.specs.Write.{Paper, paper, last_place, next_place, with_byte, onto, decimal, due_comma, commas_from, commas}
 
 -- one text after another is the joined text
 pub onto_more : (p : Paper) (t u : List ℕ) → onto (onto p t) u ≡ onto p (t ++ u)
@@ -33,14 +32,14 @@ onto_next p t i h = rw (drop-cons t i 0 h, add-one i)
 -- the next number of a list is written, with a comma before it, before the rest of it
 pub commas_next : (p : Paper) (vs : List ℕ) (i : ℕ) → i < length vs
     → onto p (commas_from true (drop i vs))
-    ≡ onto (onto (onto p (comma ∷ [])) (decimal (get_or vs i 0))) (commas_from true (drop (i + 1) vs))
+    ≡ onto (onto (onto p (due_comma true)) (decimal (get_or vs i 0))) (commas_from true (drop (i + 1) vs))
 unfolding commas_from
 commas_next p vs i h =
     rw (
       drop-cons vs i 0 h,
       add-one i,
-      onto_more p (comma ∷ []) (decimal (get_or vs i 0)),
-      onto_more p (comma ∷ decimal (get_or vs i 0)) (commas_from true (drop (suc i) vs)),
+      onto_more p (due_comma true) (decimal (get_or vs i 0)),
+      onto_more p (due_comma true ++ decimal (get_or vs i 0)) (commas_from true (drop (suc i) vs)),
     )
 
 -- a list of numbers is its first number, and the others with a comma before each

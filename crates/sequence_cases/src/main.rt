@@ -10,7 +10,8 @@
 #![tactic(auto)]
 
 use arrayvec::ArrayVec;
-use std::{fmt, io};
+use std::fmt;
+use std::io::{self, Read};
 
 // The length of the buffer. Where the input fills it, more of it may follow.
 const ROOM: usize = 65536;
@@ -90,8 +91,8 @@ fn answer_lines(rt: &impl Print, text: &[u8]) {
 
 fn main(rt: HostRuntime) {
     let mut input = ArrayVec::<u8, ROOM>::new();
-    // Where a read fails, or the buffer is full, the buffer has what came until then.
-    let _ = io::copy(&mut rt.stdin(), &mut input);
+    // No more is read than there is room for. Where a read fails, the buffer has what came until then.
+    let _ = io::copy(&mut rt.stdin().take(ROOM as u64), &mut input);
     if input.is_full() {
         let _ = println!(rt; "input too long");
         return;

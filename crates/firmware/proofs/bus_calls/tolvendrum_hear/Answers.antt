@@ -6,7 +6,7 @@ use Rattle.model.specs.Calls.{Outcome, hear}
 use Rattle.firmware_layout.specs.Controller.{ours}
 use Rattle.firmware_layout.specs.Hearing.{hearing_of, formed}
 use Rattle.firmware.proofs.Short.{Small, reply_small}
-use Rattle.firmware.proofs.Through.{first_of_three, taken, turned_by}
+use Rattle.firmware.proofs.Through.{admitted_given, first_of_three, taken, turned_by}
 use Rattle.firmware.proofs.bus_calls.tolvendrum_hear.Goals as goal
 
 pub returns-in-Err : goal.returns-in-Err
@@ -16,16 +16,22 @@ returns-in-Err c =
     rw c.turn_away.ensures (turned_by (ours a.c && formed a.a && formed a.b) (hear (hearing_of a.a) (hearing_of a.b)) _ a.c m _ (rw c.with_hearings-given.ensures at c.in-Err.ensures) (first_of_three (ours a.c) (formed a.a) (formed a.b)) refl)
 
 pub flat_answered-requires : goal.flat_answered-requires
-flat_answered-requires c r is =
+flat_answered-requires c =
     let a = c.args in
     let m = areas a.index.now a.ports.now a.page0.now a.page1.now in
-    let same = rw is at c.hear.ensures in
-    subst (λ (o : Outcome). Small o.reply) (sym same) (reply_small (hear c.from-on_a.result c.from-on_b.result) (world c.from-x.result m))
+    let given = rw c.with_hearings-given.ensures at c.in_default.ensures in
+    record {
+      small =
+          λ r is. subst (λ (o : Outcome). Small o.reply) (sym (rw is at c.hear.ensures))
+          (reply_small (hear c.from-on_a.result c.from-on_b.result) (world c.from-x.result m));
+      given = first_of_three (ours a.c) (formed a.a) (formed a.b) (admitted_given _ m given);
+    }
 
 pub returns : goal.returns
 returns c =
     let a = c.args in
     let m = areas a.index.now a.ports.now a.page0.now a.page1.now in
     c.flat_answered.ensures _
-    ∙ taken (ours a.c && formed a.a && formed a.b) (hear (hearing_of a.a) (hearing_of a.b)) _ a.c m _ (rw c.with_hearings-given.ensures at c.in_default.ensures) c.from-x.ensures
-    (rw (c.from-on_a.ensures, c.from-on_b.ensures) at c.hear.ensures)
+    ∙ taken (ours a.c && formed a.a && formed a.b) (hear (hearing_of a.a) (hearing_of a.b)) _ a.c m _
+    (rw c.with_hearings-given.ensures at c.in_default.ensures) refl
+    (rw (c.from-x.ensures, c.from-on_a.ensures, c.from-on_b.ensures) at c.hear.ensures)
